@@ -1,0 +1,4 @@
+pub mod Counting
+pub mod Site
+pub mod Rows
+pub mod Refusals
