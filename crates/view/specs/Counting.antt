@@ -32,10 +32,15 @@ unfoldable pub some : ℕ → (ℕ → Bool) → Bool
 some zero p = false
 some (suc n) p = some n p || p n
 
+-- the first answer, or else the second
+abbrev pub or-else : Option ℕ → Option ℕ → Option ℕ
+or-else (Some t) o = Some t
+or-else None o = o
+
 -- the lowest t < n that passes p, if any does
 unfoldable pub lowest : ℕ → (ℕ → Bool) → Option ℕ
 lowest zero p = None
-lowest (suc n) p = elim (lowest n p) [ Some t ↦ Some t | None ↦ cond (p n) (Some n) None ]
+lowest (suc n) p = or-else (lowest n p) (cond (p n) (Some n) None)
 
 -- how often t stands in a list
 unfoldable pub times : ℕ → List ℕ → ℕ

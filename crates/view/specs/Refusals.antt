@@ -7,8 +7,21 @@ use Rattle.view.specs.declared.refusals.TableFault.{TableFault}
 use Rattle.view.specs.declared.refusals.TableFault.the-variants.{Shape, Row}
 use Rattle.view.specs.declared.refusals.Refusal.{Refusal}
 use Rattle.view.specs.declared.refusals.Refusal.the-variants.{
-  CountOutOfRange, OffSite, EqualEnds, AlreadyLinked, NotLinked, RowFull, BufferShort, TextOutOfForm, SizeLineMisplaced,
-  NotASheet, StationAtFault, HomeOrUpWrong, CountsDiffer, TextTooLong, UnlawfulTable
+  CountOutOfRange,
+  OffSite,
+  EqualEnds,
+  AlreadyLinked,
+  NotLinked,
+  RowFull,
+  BufferShort,
+  TextOutOfForm,
+  SizeLineMisplaced,
+  NotASheet,
+  StationAtFault,
+  HomeOrUpWrong,
+  CountsDiffer,
+  TextTooLong,
+  UnlawfulTable,
 }
 use Rattle.view.specs.Site.{sized}
 

@@ -8,6 +8,8 @@ ghost use Rattle.std.specs.Finite.{nth};
 ghost use Rattle.view.specs.Site.{Site};
 ghost use Rattle.view.specs.Rows.{Faithful};
 
+pub mod counts;
+pub mod listed;
 mod refusals;
 
 pub use refusals::Refusal;

@@ -1,0 +1,127 @@
+-- Lists that are sound show a lawful site, row by row.
+use mathlib.Core.Path.{_≡_, refl, sym, ap, _∙_}
+use mathlib.Core.Bool.{Bool, true, false, not, _&&_, _||_}
+use mathlib.Core.List.{List, []}
+use mathlib.Core.Logic.{⊎-elim}
+use Prim.Native.Nat.{ℕ, zero, suc, _+_, _-_, _<_, _≤_}
+use native.Mathlib.Omega.{arith}
+use native.Mathlib.Numerals.{add-one}
+use lib.Dec.{eqb, ltb, leb}
+use lib.ListN.{length, getD}
+use Rattle.std.specs.Holes.{between}
+use Rattle.std.specs.Options.{isSome}
+use Rattle.std.proofs.shelf.Tests.{and-parts, and-from, or-parts, and-cases, not-true, not-false, cases-bool, cases-eq, cases-lt, lt-ltb, le-ltb, ltb-true, ltb-false, leb-true, leb-false, eqb-true, eqb-false, cond-true, cond-false}
+use Rattle.view.specs.Counting.{all, some, lowest, times, holds}
+use Rattle.view.specs.Site.{Site, Lawful}
+use Rattle.view.specs.Rows.{Rising, Faithful}
+use Rattle.view.specs.Listing.{stations, never-falls, shaped, row, bad-entry, bad-row, lowest-bad-row, sound, site-of}
+use Rattle.view.specs.Witness.Counting.{same-test, all-at, some-at, lowest-at, holds-times, times-holds, place-of, times-at, rises-once, held-once}
+
+-- the row of a station on the site, and of one off it
+pub row-in : (starts ends : List ℕ) (s : ℕ) → s < stations starts → row starts ends s ≡ between (getD starts s 0) (getD starts (s + 1) 0) ends
+unfolding row
+row-in starts ends s h = cond-true (ltb s (stations starts)) _ _ (lt-ltb s (stations starts) h)
+
+pub row-out : (starts ends : List ℕ) (s : ℕ) → stations starts ≤ s → row starts ends s ≡ []
+unfolding row
+row-out starts ends s h = cond-false (ltb s (stations starts)) _ _ (le-ltb s (stations starts) h)
+
+-- a row with a place is that of a station on the site
+pub row-on-site : (starts ends : List ℕ) (s place : ℕ) → place < length (row starts ends s) → s < stations starts
+row-on-site starts ends s place h =
+    ⊎-elim
+    (λ (l : s < stations starts). l)
+    (λ (l : stations starts ≤ s). let none : length (row starts ends s) ≡ 0 = ap length (row-out starts ends s l) in absurd (omega arith))
+    (cases-lt s (stations starts))
+
+-- what the shape says of the starts
+pub record Shape (starts ends : List ℕ) : Type 0 where
+  pub some-start : 0 < length starts
+  pub never-fall : (s : ℕ) → s < stations starts → getD starts s 0 ≤ getD starts (s + 1) 0
+  pub last : getD starts (stations starts) 0 ≡ length ends
+
+pub shape : (starts ends : List ℕ) → shaped starts ends ≡ true → Shape starts ends
+unfolding shaped never-falls
+shape starts ends h =
+    let a = and-parts (ltb 0 (length starts) && eqb (getD starts 0 0) 0 && never-falls starts) (eqb (getD starts (stations starts) 0) (length ends)) h in
+    let b = and-parts (ltb 0 (length starts) && eqb (getD starts 0 0) 0) (never-falls starts) (a .0) in
+    let c = and-parts (ltb 0 (length starts)) (eqb (getD starts 0 0) 0) (b .0) in
+    record {
+      some-start = ltb-true 0 (length starts) (c .0);
+      never-fall = λ s l. leb-true (getD starts s 0) (getD starts (s + 1) 0) (all-at (stations starts) (λ s. leb (getD starts s 0) (getD starts (s + 1) 0)) s (b .1) l);
+      last = eqb-true (getD starts (stations starts) 0) (length ends) (a .1);
+    }
+
+-- no start is past the ends
+pub start-within : (starts ends : List ℕ) → Shape starts ends → (s : ℕ) → s ≤ stations starts → getD starts s 0 ≤ length ends
+start-within starts ends shape s h = go (stations starts - s) s (omega arith)
+  where
+    go : (d s : ℕ) → s + d ≡ stations starts → getD starts s 0 ≤ length ends
+    go zero s e = let same : s ≡ stations starts = omega arith in omega (arith, shape .last, ap (λ k. getD starts k 0) same)
+    go (suc d) s e = let next : getD starts (s + 1) 0 ≤ length ends = go d (s + 1) (omega arith) in omega (arith, shape .never-fall s (omega arith))
+
+-- what is said of an entry t at a place of the row of s that is not bad
+pub record Entry (starts ends : List ℕ) (s place t : ℕ) : Type 0 where
+  pub other : t ≡ s → ⊥
+  pub on-site : t < stations starts
+  pub above : 0 < place → getD (row starts ends s) (place - 1) 0 < t
+  pub in-return : holds (row starts ends t) s ≡ true
+
+good-entry : (starts ends : List ℕ) (s place : ℕ) → bad-entry starts ends s place ≡ false → Entry starts ends s place (getD (row starts ends s) place 0)
+good-entry starts ends s place h =
+    let t = getD (row starts ends s) place 0 in
+    let before = getD (row starts ends s) (place - 1) 0 in
+    let a = or-parts (eqb t s || leb (stations starts) t || (ltb 0 place && leb t before)) (not (holds (row starts ends t) s)) h in
+    let b = or-parts (eqb t s || leb (stations starts) t) (ltb 0 place && leb t before) (a .0) in
+    let c = or-parts (eqb t s) (leb (stations starts) t) (b .0) in
+    record {
+      other = eqb-false t s (c .0);
+      on-site = leb-false (stations starts) t (c .1);
+      above = λ l. ⊎-elim
+          (λ (z : ltb 0 place ≡ false). absurd (omega (arith, ltb-false 0 place z)))
+          (λ (z : leb t before ≡ false). leb-false t before z)
+          (and-cases (ltb 0 place) (leb t before) (b .1));
+      in-return = not-false (holds (row starts ends t) s) (a .1);
+    }
+
+module _ (starts ends : List ℕ) (ok : sound starts ends ≡ true) where
+  pub sound-shape : shaped starts ends ≡ true
+  unfolding sound
+  sound-shape = and-parts (shaped starts ends) (not (isSome (lowest-bad-row starts ends))) ok .0
+
+  no-bad-row : isSome (lowest-bad-row starts ends) ≡ false
+  unfolding sound
+  no-bad-row = not-true (isSome (lowest-bad-row starts ends)) (and-parts (shaped starts ends) (not (isSome (lowest-bad-row starts ends))) ok .1)
+
+  entry : (s place : ℕ) → place < length (row starts ends s) → Entry starts ends s place (getD (row starts ends s) place 0)
+  unfolding bad-row
+  entry s place h =
+      let good = lowest-at (stations starts) (bad-row starts ends) s no-bad-row (row-on-site starts ends s place h) in
+      good-entry starts ends s place (some-at (length (row starts ends s)) (bad-entry starts ends s) place good h)
+
+  -- a linked station is an entry
+  linked-entry : (s t : ℕ) → holds (row starts ends s) t ≡ true → (place : ℕ) × Entry starts ends s place t
+  linked-entry s t h =
+      let at = place-of t (row starts ends s) (holds-times (row starts ends s) t h) in
+      let e = entry s (at .0) (at .1) in
+      (at .0, rw (at .2) at e)
+
+  returned : (s t : ℕ) → holds (row starts ends s) t ≡ true → holds (row starts ends t) s ≡ true
+  returned s t h = linked-entry s t h .1 .in-return
+
+  rising : (s : ℕ) → Rising (row starts ends s)
+  rising s i h =
+      let up = entry s (i + 1) h .above (omega arith) in
+      let same : (i + 1) - 1 ≡ i = omega arith in
+      rw same at up
+
+  pub faithful : Faithful (site-of starts ends) (row starts ends)
+  faithful = record {
+    lawful = record {
+      inside = λ s t h. (linked-entry t s (returned s t h) .1 .on-site, linked-entry s t h .1 .on-site);
+      apart = λ s. ⊎-elim (λ (y : holds (row starts ends s) s ≡ true). absurd (linked-entry s s y .1 .other refl)) (λ n. n) (cases-bool (holds (row starts ends s) s));
+      both-ways = λ s t. same-test (holds (row starts ends s) t) (holds (row starts ends t) s) (returned s t) (returned t s);
+    };
+    once = λ s t. held-once t (row starts ends s) (rises-once t (row starts ends s) (rising s));
+    rising = rising;
+  }
