@@ -1,1 +1,5 @@
+pub mod Admitted
 pub mod Checks
+pub mod Rows
+pub mod Sums
+pub mod Theorems

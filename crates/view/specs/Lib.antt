@@ -4,4 +4,6 @@ pub mod Rows
 pub mod Refusals
 pub mod Listing
 pub mod Checked
+pub mod Tables
+pub mod Laws
 pub mod Witness

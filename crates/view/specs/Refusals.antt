@@ -23,7 +23,7 @@ use Rattle.view.specs.declared.refusals.Refusal.the-variants.{
   TextTooLong,
   UnlawfulTable,
 }
-use Rattle.view.specs.Site.{sized}
+use Rattle.view.specs.Site.{Site, sized, link-count}
 
 -- The number of a refusal, 1 to 15.
 abbrev pub number-of : Refusal → ℕ
@@ -69,3 +69,7 @@ place-of (UnlawfulTable fault) = row-of-fault fault
 -- A station count outside 1 to 512 is refused.
 abbrev pub counted : ℕ → Result (Unit {0}) Refusal
 counted n = cond (sized n) (Ok tt) (Err CountOutOfRange)
+
+-- how many links a site of 1 to 512 stations has
+abbrev pub links-answer : Site → Result ℕ Refusal
+links-answer g = cond (sized (g .size)) (Ok (link-count g)) (Err CountOutOfRange)

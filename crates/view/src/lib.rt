@@ -9,6 +9,9 @@ ghost use Rattle.view.specs.Site.{Site};
 ghost use Rattle.view.specs.Rows.{Faithful};
 
 pub mod counts;
+pub mod laws;
+pub mod lent;
+pub mod links;
 pub mod listed;
 mod refusals;
 

@@ -15,6 +15,7 @@ use Rattle.view.specs.Counting.{all, some, lowest, times, holds}
 use Rattle.view.specs.Site.{Site, Lawful}
 use Rattle.view.specs.Rows.{Rising, Faithful}
 use Rattle.view.specs.Listing.{stations, never-falls, shaped, row, bad-entry, bad-row, lowest-bad-row, sound, site-of}
+use Rattle.view.specs.Tables.{Shape, Entry}
 use Rattle.view.specs.Witness.Counting.{same-test, all-at, some-at, lowest-at, holds-times, times-holds, place-of, times-at, rises-once, held-once}
 
 -- the row of a station on the site, and of one off it
@@ -34,12 +35,7 @@ row-on-site starts ends s place h =
     (λ (l : stations starts ≤ s). let none : length (row starts ends s) ≡ 0 = ap length (row-out starts ends s l) in absurd (omega arith))
     (cases-lt s (stations starts))
 
--- what the shape says of the starts
-pub record Shape (starts ends : List ℕ) : Type 0 where
-  pub some-start : 0 < length starts
-  pub never-fall : (s : ℕ) → s < stations starts → getD starts s 0 ≤ getD starts (s + 1) 0
-  pub last : getD starts (stations starts) 0 ≡ length ends
-
+-- what a passed test of the shape says
 pub shape : (starts ends : List ℕ) → shaped starts ends ≡ true → Shape starts ends
 unfolding shaped never-falls
 shape starts ends h =
@@ -48,6 +44,7 @@ shape starts ends h =
     let c = and-parts (ltb 0 (length starts)) (eqb (getD starts 0 0) 0) (b .0) in
     record {
       some-start = ltb-true 0 (length starts) (c .0);
+      first = eqb-true (getD starts 0 0) 0 (c .1);
       never-fall = λ s l. leb-true (getD starts s 0) (getD starts (s + 1) 0) (all-at (stations starts) (λ s. leb (getD starts s 0) (getD starts (s + 1) 0)) s (b .1) l);
       last = eqb-true (getD starts (stations starts) 0) (length ends) (a .1);
     }
@@ -60,14 +57,8 @@ start-within starts ends shape s h = go (stations starts - s) s (omega arith)
     go zero s e = let same : s ≡ stations starts = omega arith in omega (arith, shape .last, ap (λ k. getD starts k 0) same)
     go (suc d) s e = let next : getD starts (s + 1) 0 ≤ length ends = go d (s + 1) (omega arith) in omega (arith, shape .never-fall s (omega arith))
 
--- what is said of an entry t at a place of the row of s that is not bad
-pub record Entry (starts ends : List ℕ) (s place t : ℕ) : Type 0 where
-  pub other : t ≡ s → ⊥
-  pub on-site : t < stations starts
-  pub above : 0 < place → getD (row starts ends s) (place - 1) 0 < t
-  pub in-return : holds (row starts ends t) s ≡ true
-
-good-entry : (starts ends : List ℕ) (s place : ℕ) → bad-entry starts ends s place ≡ false → Entry starts ends s place (getD (row starts ends s) place 0)
+-- what a passed test of an entry says
+pub good-entry : (starts ends : List ℕ) (s place : ℕ) → bad-entry starts ends s place ≡ false → Entry starts ends s place (getD (row starts ends s) place 0)
 good-entry starts ends s place h =
     let t = getD (row starts ends s) place 0 in
     let before = getD (row starts ends s) (place - 1) 0 in

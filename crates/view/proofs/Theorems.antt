@@ -1,0 +1,120 @@
+-- The laws of the definitions.
+use mathlib.Core.Path.{_≡_, refl, sym, ap, _∙_}
+use mathlib.Core.Bool.{Bool, true, false, cond, not, _&&_, _||_}
+use mathlib.Core.List.{List, [], _∷_}
+use mathlib.Core.Logic.{_⊎_, inl, inr, ⊎-elim}
+use Prim.Native.Nat.{ℕ, zero, suc, _+_, _-_, _*_, _<_, _≤_}
+use native.Mathlib.Omega.{arith}
+use lib.Dec.{eqb, ltb, leb}
+use lib.ListN.{length, getD}
+use Rattle.std.specs.Options.{isSome}
+use Rattle.std.specs.declared.option.Option.{Option}
+use Rattle.std.specs.declared.option.Option.the-variants.{Some, None}
+use Rattle.std.specs.declared.result.Result.the-variants.{Ok, Err}
+use Rattle.std.proofs.shelf.Tests.{and-from, cases-bool, cases-eq, cases-lt, both-ways, eq-eqb, ne-eqb, lt-ltb, le-leb, lt-leb, or-from, and-left, and-right, le-ltb, not-from-true, cond-true, cond-false}
+use Rattle.view.specs.declared.refusals.TableFault.the-variants.{Shape as BadShape, Row as BadRow}
+use Rattle.view.specs.declared.refusals.Refusal.the-variants.{UnlawfulTable}
+use Rattle.view.specs.Counting.{bit, count, total, all, some, or-else, lowest, times, holds}
+use Rattle.view.specs.Site.{Site, Lawful, sized, link-count}
+use Rattle.view.specs.Rows.{Faithful}
+use Rattle.view.specs.Listing.{stations, never-falls, shaped, row, bad-entry, bad-row, lowest-bad-row}
+use Rattle.view.specs.Checked.{unless-bad, checked}
+use Rattle.view.specs.Tables.{Shape, Entry, Good-row, Well-shaped, Fault, Verdict}
+use Rattle.view.specs.Laws.{Found, The-lowest-is-the-first-that-passes, Stations-off-the-site-have-no-neighbours, Each-link-has-two-ends, The-check-judges-in-words}
+use Rattle.view.specs.Witness.Counting.{same-test, bit-true, bit-false, all-more, all-none, some-at, some-found, times-at}
+use Rattle.view.specs.Witness.Listings.{shape, good-entry}
+use Rattle.view.proofs.Admitted.{sized-within}
+use Rattle.view.proofs.Sums.{total-same, total-add, count-total}
+
+pub lowest-first : The-lowest-is-the-first-that-passes
+unfolding lowest
+lowest-first zero p = λ t h. absurd (omega arith)
+lowest-first (suc n) p = step (lowest n p) (lowest-first n p) (p n) refl
+  where
+    step : (o : Option ℕ) → Found n p o → (b : Bool) → p n ≡ b → Found (suc n) p (or-else o (cond b (Some n) None))
+    step (Some k) (l, yes′, first) b e = (omega arith, yes′, first)
+    step None none true e = (omega arith, e, none)
+    step None none false e = λ t h. ⊎-elim (λ (d : t ≡ n). ap p d ∙ e) (λ (d : t ≡ n → ⊥). none t (omega arith)) (cases-eq t n)
+
+pub off-site-none : Stations-off-the-site-have-no-neighbours
+off-site-none g row law s h = empty (row s) (λ t. unheard t (cases-bool (g .linked s t)))
+  where
+    unheard : (t : ℕ) → (g .linked s t ≡ true) ⊎ (g .linked s t ≡ false) → times t (row s) ≡ 0
+    unheard t (inl y) = absurd (omega (arith, law .lawful .inside s t y .0))
+    unheard t (inr n) = law .once s t ∙ bit-false (g .linked s t) n
+
+    empty : (xs : List ℕ) → ((t : ℕ) → times t xs ≡ 0) → xs ≡ []
+    empty [] none = refl
+    empty (x ∷ xs) none = absurd (omega (arith, none x, times-at x (x ∷ xs) 0 (omega arith) refl))
+
+-- one station more adds its links to lower ones twice: at itself, and at each of those
+pub two-ends : Each-link-has-two-ends
+unfolding link-count total count
+two-ends g law = twice (g .size)
+  where
+    twice : (n : ℕ) → total n (λ s. count n (g .linked s)) ≡ 2 * total n (λ s. count s (g .linked s))
+    twice zero = refl
+    twice (suc n) =
+        let to-n : total n (λ s. bit (g .linked s n)) ≡ total n (λ s. bit (g .linked n s)) = total-same n (λ s. bit (g .linked s n)) (λ s. bit (g .linked n s)) (λ s h. ap bit (law .both-ways s n)) in
+        omega (arith, twice n, total-add n (λ s. count n (g .linked s)) (λ s. bit (g .linked s n)), to-n, count-total n (g .linked n), bit-false (g .linked n n) (law .apart n))
+
+-- the tests of a table answer as the words do
+all-from : (n : ℕ) (p : ℕ → Bool) → ((k : ℕ) → k < n → p k ≡ true) → all n p ≡ true
+unfolding all
+all-from zero p h = refl
+all-from (suc n) p h = and-from (all n p) (p n) (all-from n p (λ k l. h k (omega arith))) (h n (omega arith))
+
+some-from : (n : ℕ) (p : ℕ → Bool) → ((k : ℕ) → k < n → p k ≡ false) → some n p ≡ false
+unfolding some
+some-from zero p h = refl
+some-from (suc n) p h = or-from (some n p) (p n) (some-from n p (λ k l. h k (omega arith))) (h n (omega arith))
+
+module _ (starts ends : List ℕ) where
+  shape-passes : Shape starts ends → shaped starts ends ≡ true
+  unfolding shaped never-falls
+  shape-passes h =
+      and-from _ _
+      (and-from _ _
+      (and-from _ _ (lt-ltb 0 (length starts) (h .some-start)) (eq-eqb (getD starts 0 0) 0 (h .first)))
+      (all-from (stations starts) _ (λ s l. le-leb (getD starts s 0) (getD starts (s + 1) 0) (h .never-fall s l))))
+      (eq-eqb (getD starts (stations starts) 0) (length ends) (h .last))
+
+  entry-passes : (s place : ℕ) → Entry starts ends s place (getD (row starts ends s) place 0) → bad-entry starts ends s place ≡ false
+  entry-passes s place h =
+      let t = getD (row starts ends s) place 0 in
+      let before = getD (row starts ends s) (place - 1) 0 in
+      or-from (eqb t s || leb (stations starts) t || (ltb 0 place && leb t before)) (not (holds (row starts ends t) s))
+      (or-from (eqb t s || leb (stations starts) t) (ltb 0 place && leb t before)
+      (or-from (eqb t s) (leb (stations starts) t) (ne-eqb t s (h .other)) (lt-leb (stations starts) t (h .on-site)))
+      (⊎-elim
+      (λ (l : 0 < place). and-right (ltb 0 place) (leb t before) (lt-leb t before (h .above l)))
+      (λ (l : place ≤ 0). and-left (ltb 0 place) (leb t before) (le-ltb 0 place l))
+      (cases-lt 0 place)))
+      (not-from-true (holds (row starts ends t) s) (h .in-return))
+
+  good : (s : ℕ) → bad-row starts ends s ≡ false → Good-row starts ends s
+  unfolding bad-row
+  good s h place l = good-entry starts ends s place (some-at (length (row starts ends s)) (bad-entry starts ends s) place h l)
+
+  not-good : (s : ℕ) → bad-row starts ends s ≡ true → Good-row starts ends s → ⊥
+  unfolding bad-row
+  not-good s h fine =
+      both-ways (bad-row starts ends s) (some-from (length (row starts ends s)) (bad-entry starts ends s) (λ place l. entry-passes s place (fine place l))) h
+
+  well-shaped : sized (stations starts) ≡ true → shaped starts ends ≡ true → Well-shaped starts ends
+  well-shaped a b = let n = sized-within (stations starts) a in (n .0, n .1, shape starts ends b)
+
+  rows-judged : Well-shaped starts ends → (o : Option ℕ) → Found (stations starts) (bad-row starts ends) o → Verdict starts ends (unless-bad o)
+  rows-judged w None none = (w, λ s l. good s (none s l))
+  rows-judged w (Some r) (l, bad, first) = (BadRow r, refl, (w, l, not-good r bad, λ s k. good s (first s k)))
+
+  judged : (a b : Bool) → sized (stations starts) ≡ a → shaped starts ends ≡ b
+      → Verdict starts ends (cond (a && b) (unless-bad (lowest-bad-row starts ends)) (Err (UnlawfulTable BadShape)))
+  judged true true e f = rows-judged (well-shaped e f) (lowest-bad-row starts ends) (lowest-first (stations starts) (bad-row starts ends))
+  judged true false e f = (BadShape, refl, λ w. both-ways (shaped starts ends) f (shape-passes (w .2)))
+  judged false b e f =
+      (BadShape, refl, λ w. both-ways (sized (stations starts)) e (and-from (leb 1 (stations starts)) (leb (stations starts) 512) (le-leb 1 (stations starts) (w .0)) (le-leb (stations starts) 512 (w .1))))
+
+pub judges : The-check-judges-in-words
+unfolding checked
+judges starts ends = judged starts ends (sized (stations starts)) (shaped starts ends) refl refl
