@@ -10,13 +10,20 @@ ghost use Rattle.view.specs.Rows.{Faithful};
 
 pub mod counts;
 pub mod laws;
-pub mod lent;
+mod lent;
 pub mod links;
 pub mod listed;
 mod refusals;
 
+pub use lent::LentView;
 pub use refusals::Refusal;
+pub use refusals::RefusalDebug;
+pub use refusals::RefusalEq;
+pub use refusals::RefusalPartialEq;
 pub use refusals::TableFault;
+pub use refusals::TableFaultDebug;
+pub use refusals::TableFaultEq;
+pub use refusals::TableFaultPartialEq;
 
 /// Stations that hear one another. A view means a site, and answers by it.
 pub trait View {
