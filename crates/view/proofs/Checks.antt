@@ -17,12 +17,12 @@ use Rattle.view.specs.declared.refusals.Refusal.the-variants.{UnlawfulTable}
 use Rattle.view.specs.Counting.{all, lowest, times, holds}
 use Rattle.view.specs.Site.{Site, no-stations, sized}
 use Rattle.view.specs.Listing.{stations, never-falls, shaped, row, lowest-bad-row, sound, site-of}
-use Rattle.view.specs.Checked.{unless-bad, checked, opened}
+use Rattle.view.specs.Checked.{unless-bad, checked}
 use Rattle.view.specs.Witness.Listings.{row-out}
 
 -- lists that pass are sound
 pub passed-sound : (starts ends : List ℕ) → isOk (checked starts ends) ≡ true → sound starts ends ≡ true
-unfolding checked sound
+unfolding sound
 passed-sound starts ends h = go (sized (stations starts)) (shaped starts ends) (lowest-bad-row starts ends) h
   where
     go : (a b : Bool) (o : Option ℕ) → isOk (cond (a && b) (unless-bad o) (Err (UnlawfulTable Shape))) ≡ true → (b && not (isSome o)) ≡ true
@@ -31,21 +31,12 @@ passed-sound starts ends h = go (sized (stations starts)) (shaped starts ends) (
     go true false o h = absurd (both-ways false refl h)
     go false b o h = absurd (both-ways false refl h)
 
--- and open as their site
-pub opens : (starts ends : List ℕ) → isOk (checked starts ends) ≡ true → site-of starts ends ≡ opened starts ends
-unfolding opened
-opens starts ends h = sym (cond-true (isOk (checked starts ends)) _ _ h)
+-- the view with no stations means no stations
+pub empty-site : site-of (0 ∷ []) [] ≡ no-stations
+unfolding holds times
+empty-site = ap (λ links. record { size = 0; linked = links }) (fun-ext (λ s. fun-ext (λ t. ap (λ xs. holds xs t) (row-out (0 ∷ []) [] s (omega arith)))))
 
-pub opens-empty : (starts ends : List ℕ) → isOk (checked starts ends) ≡ false → site-of (0 ∷ []) [] ≡ opened starts ends
-unfolding opened holds times
-opens-empty starts ends h =
-    ap (λ links. record { size = 0; linked = links }) (fun-ext (λ s. fun-ext (λ t. none s t)))
-    ∙ sym (cond-false (isOk (checked starts ends)) (site-of starts ends) no-stations h)
-  where
-    none : (s t : ℕ) → holds (row (0 ∷ []) [] s) t ≡ false
-    none s t = ap (λ xs. holds xs t) (row-out (0 ∷ []) [] s (omega arith))
-
--- the view with no stations is sound
+-- and is sound
 pub empty-sound : sound (0 ∷ []) [] ≡ true
 unfolding sound shaped never-falls all lowest
 empty-sound = refl

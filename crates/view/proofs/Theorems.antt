@@ -49,7 +49,7 @@ off-site-none g row law s h = empty (row s) (λ t. unheard t (cases-bool (g .lin
 
 -- one station more adds its links to lower ones twice: at itself, and at each of those
 pub two-ends : Each-link-has-two-ends
-unfolding link-count total count
+unfolding total count
 two-ends g law = twice (g .size)
   where
     twice : (n : ℕ) → total n (λ s. count n (g .linked s)) ≡ 2 * total n (λ s. count s (g .linked s))
@@ -116,5 +116,4 @@ module _ (starts ends : List ℕ) where
       (BadShape, refl, λ w. both-ways (sized (stations starts)) e (and-from (leb 1 (stations starts)) (leb (stations starts) 512) (le-leb 1 (stations starts) (w .0)) (le-leb (stations starts) 512 (w .1))))
 
 pub judges : The-check-judges-in-words
-unfolding checked
 judges starts ends = judged starts ends (sized (stations starts)) (shaped starts ends) refl refl

@@ -19,10 +19,10 @@ unless-bad None = Ok tt
 unless-bad (Some s) = Err (UnlawfulTable (Row s))
 
 -- the verdict: first the station count and the shape, then the lowest bad row
-unfoldable pub checked : List ℕ → List ℕ → Result (Unit {0}) Refusal
+abbrev pub checked : List ℕ → List ℕ → Result (Unit {0}) Refusal
 checked starts ends =
     cond (sized (stations starts) && shaped starts ends) (unless-bad (lowest-bad-row starts ends)) (Err (UnlawfulTable Shape))
 
 -- what two lists mean: their site where they pass the check, else the site with no stations
-unfoldable pub opened : List ℕ → List ℕ → Site
+abbrev pub opened : List ℕ → List ℕ → Site
 opened starts ends = cond (isOk (checked starts ends)) (site-of starts ends) no-stations

@@ -25,5 +25,5 @@ abbrev pub sized : ℕ → Bool
 sized n = leb 1 n && leb n 512
 
 -- how many links a site has: each is counted at its higher end
-unfoldable pub link-count : Site → ℕ
+abbrev pub link-count : Site → ℕ
 link-count g = total (g .size) (λ s. count s (g .linked s))

@@ -6,7 +6,7 @@ ghost use Rattle.view.specs.Refusals.{counted};
 use crate::Refusal;
 
 /// Whether a station count is 1 to 512.
-pub fn is_sized(count: usize) -> bool
+pub(crate) fn is_sized(count: usize) -> bool
     ensures { λ r. ⌜ r ≡ sized count ⌝ }
 {
     1 <= count && count <= 512

@@ -4,6 +4,7 @@ ghost use mathlib.Core.Path.{_≡_};
 ghost use mathlib.Core.Bool.{true};
 ghost use Prim.Native.Nat.{_<_};
 ghost use lib.ListN.{length};
+ghost use Rattle.std.specs.Finite.{nth};
 ghost use Rattle.view.specs.Counting.{holds};
 ghost use Rattle.view.specs.Listing.{stations as station-count, never-falls, shaped, row as row-of, bad-entry, bad-row, lowest-bad-row};
 
@@ -45,6 +46,16 @@ pub(super) fn row<'a>(starts: &[u32], ends: &'a [u16], s: usize) -> &'a [u16]
         &ends[starts[s] as usize..starts[s + 1] as usize]
     } else {
         &[]
+    }
+}
+
+/// The entry at a place of a row, if it has one.
+pub(super) fn entry(row: &[u16], place: usize) -> Option<usize>
+    ensures { λ r. ⌜ r ≡ nth (now (row .entry)) place ⌝ }
+{
+    match row.get(place) {
+        Some(t) => Some(*t as usize),
+        None => None,
     }
 }
 
