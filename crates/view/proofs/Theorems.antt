@@ -11,7 +11,7 @@ use Rattle.std.specs.Options.{isSome}
 use Rattle.std.specs.declared.option.Option.{Option}
 use Rattle.std.specs.declared.option.Option.the-variants.{Some, None}
 use Rattle.std.specs.declared.result.Result.the-variants.{Ok, Err}
-use Rattle.std.proofs.shelf.Tests.{and-from, cases-bool, cases-eq, cases-lt, both-ways, eq-eqb, ne-eqb, lt-ltb, le-leb, lt-leb, or-from, and-left, and-right, le-ltb, not-from-true, cond-true, cond-false}
+use Rattle.std.proofs.shelf.Tests.{and-parts, and-from, cases-bool, cases-eq, cases-lt, both-ways, eq-eqb, ne-eqb, lt-ltb, ltb-true, leb-true, eqb-true, le-leb, lt-leb, or-from, and-left, and-right, le-ltb, not-from-true, cond-true, cond-false}
 use Rattle.view.specs.declared.refusals.TableFault.the-variants.{Shape as BadShape, Row as BadRow}
 use Rattle.view.specs.declared.refusals.Refusal.the-variants.{UnlawfulTable}
 use Rattle.view.specs.Counting.{bit, count, total, all, some, or-else, lowest, times, holds}
@@ -21,8 +21,8 @@ use Rattle.view.specs.Listing.{stations, never-falls, shaped, row, bad-entry, 
 use Rattle.view.specs.Checked.{unless-bad, checked}
 use Rattle.view.specs.Tables.{Shape, Entry, Good-row, Well-shaped, Fault, Verdict}
 use Rattle.view.specs.Laws.{Found, The-lowest-is-the-first-that-passes, Stations-off-the-site-have-no-neighbours, Each-link-has-two-ends, The-check-judges-in-words}
-use Rattle.view.specs.Witness.Counting.{same-test, bit-true, bit-false, all-more, all-none, some-at, some-found, times-at}
-use Rattle.view.specs.Witness.Listings.{shape, good-entry}
+use Rattle.view.specs.Witness.Counting.{bit-false, all-at, some-at, times-at}
+use Rattle.view.specs.Witness.Listings.{good-entry}
 use Rattle.view.proofs.Admitted.{sized-within}
 use Rattle.view.proofs.Sums.{total-same, total-add, count-total}
 
@@ -59,6 +59,19 @@ two-ends g law = twice (g .size)
         omega (arith, twice n, total-add n (λ s. count n (g .linked s)) (λ s. bit (g .linked s n)), to-n, count-total n (g .linked n), bit-false (g .linked n n) (law .apart n))
 
 -- the tests of a table answer as the words do
+shape : (starts ends : List ℕ) → shaped starts ends ≡ true → Shape starts ends
+unfolding shaped never-falls
+shape starts ends h =
+    let a = and-parts (ltb 0 (length starts) && eqb (getD starts 0 0) 0 && never-falls starts) (eqb (getD starts (stations starts) 0) (length ends)) h in
+    let b = and-parts (ltb 0 (length starts) && eqb (getD starts 0 0) 0) (never-falls starts) (a .0) in
+    let c = and-parts (ltb 0 (length starts)) (eqb (getD starts 0 0) 0) (b .0) in
+    record {
+      some-start = ltb-true 0 (length starts) (c .0);
+      first = eqb-true (getD starts 0 0) 0 (c .1);
+      never-fall = λ s l. leb-true (getD starts s 0) (getD starts (s + 1) 0) (all-at (stations starts) (λ s. leb (getD starts s 0) (getD starts (s + 1) 0)) s (b .1) l);
+      last = eqb-true (getD starts (stations starts) 0) (length ends) (a .1);
+    }
+
 all-from : (n : ℕ) (p : ℕ → Bool) → ((k : ℕ) → k < n → p k ≡ true) → all n p ≡ true
 unfolding all
 all-from zero p h = refl

@@ -12,6 +12,8 @@ mod rows;
 
 pub use answers::ListedView;
 pub use checks::check;
+pub use rows::row;
+pub use rows::stations;
 
 /// A table of links. The neighbours of station s are the ends from place `starts[s]` to just before `starts[s + 1]`.
 #[derive(Clone, Copy)]

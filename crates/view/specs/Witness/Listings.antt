@@ -14,9 +14,9 @@ use Rattle.std.proofs.shelf.Tests.{and-parts, and-from, or-parts, and-cases, no
 use Rattle.view.specs.Counting.{all, some, lowest, times, holds}
 use Rattle.view.specs.Site.{Site, Lawful}
 use Rattle.view.specs.Rows.{Rising, Faithful}
-use Rattle.view.specs.Listing.{stations, never-falls, shaped, row, bad-entry, bad-row, lowest-bad-row, sound, site-of}
-use Rattle.view.specs.Tables.{Shape, Entry}
-use Rattle.view.specs.Witness.Counting.{same-test, all-at, some-at, lowest-at, holds-times, times-holds, place-of, times-at, rises-once, held-once}
+use Rattle.view.specs.Listing.{stations, shaped, row, bad-entry, bad-row, lowest-bad-row, sound, site-of}
+use Rattle.view.specs.Tables.{Entry}
+use Rattle.view.specs.Witness.Counting.{same-test, some-at, lowest-at, holds-times, times-holds, place-of, times-at, rises-once, held-once}
 
 -- the row of a station on the site, and of one off it
 pub row-in : (starts ends : List ℕ) (s : ℕ) → s < stations starts → row starts ends s ≡ between (getD starts s 0) (getD starts (s + 1) 0) ends
@@ -34,28 +34,6 @@ row-on-site starts ends s place h =
     (λ (l : s < stations starts). l)
     (λ (l : stations starts ≤ s). let none : length (row starts ends s) ≡ 0 = ap length (row-out starts ends s l) in absurd (omega arith))
     (cases-lt s (stations starts))
-
--- what a passed test of the shape says
-pub shape : (starts ends : List ℕ) → shaped starts ends ≡ true → Shape starts ends
-unfolding shaped never-falls
-shape starts ends h =
-    let a = and-parts (ltb 0 (length starts) && eqb (getD starts 0 0) 0 && never-falls starts) (eqb (getD starts (stations starts) 0) (length ends)) h in
-    let b = and-parts (ltb 0 (length starts) && eqb (getD starts 0 0) 0) (never-falls starts) (a .0) in
-    let c = and-parts (ltb 0 (length starts)) (eqb (getD starts 0 0) 0) (b .0) in
-    record {
-      some-start = ltb-true 0 (length starts) (c .0);
-      first = eqb-true (getD starts 0 0) 0 (c .1);
-      never-fall = λ s l. leb-true (getD starts s 0) (getD starts (s + 1) 0) (all-at (stations starts) (λ s. leb (getD starts s 0) (getD starts (s + 1) 0)) s (b .1) l);
-      last = eqb-true (getD starts (stations starts) 0) (length ends) (a .1);
-    }
-
--- no start is past the ends
-pub start-within : (starts ends : List ℕ) → Shape starts ends → (s : ℕ) → s ≤ stations starts → getD starts s 0 ≤ length ends
-start-within starts ends shape s h = go (stations starts - s) s (omega arith)
-  where
-    go : (d s : ℕ) → s + d ≡ stations starts → getD starts s 0 ≤ length ends
-    go zero s e = let same : s ≡ stations starts = omega arith in omega (arith, shape .last, ap (λ k. getD starts k 0) same)
-    go (suc d) s e = let next : getD starts (s + 1) 0 ≤ length ends = go d (s + 1) (omega arith) in omega (arith, shape .never-fall s (omega arith))
 
 -- what a passed test of an entry says
 pub good-entry : (starts ends : List ℕ) (s place : ℕ) → bad-entry starts ends s place ≡ false → Entry starts ends s place (getD (row starts ends s) place 0)
@@ -76,10 +54,6 @@ good-entry starts ends s place h =
     }
 
 module _ (starts ends : List ℕ) (ok : sound starts ends ≡ true) where
-  pub sound-shape : shaped starts ends ≡ true
-  unfolding sound
-  sound-shape = and-parts (shaped starts ends) (not (isSome (lowest-bad-row starts ends))) ok .0
-
   no-bad-row : isSome (lowest-bad-row starts ends) ≡ false
   unfolding sound
   no-bad-row = not-true (isSome (lowest-bad-row starts ends)) (and-parts (shaped starts ends) (not (isSome (lowest-bad-row starts ends))) ok .1)

@@ -1,7 +1,6 @@
-//! The rows of two lists of the right shape, and which rows are bad.
+//! The rows that two lists are cut into, and which rows are bad.
 
 ghost use mathlib.Core.Path.{_≡_};
-ghost use mathlib.Core.Bool.{true};
 ghost use Prim.Native.Nat.{_<_};
 ghost use lib.ListN.{length};
 ghost use Rattle.std.specs.Finite.{nth};
@@ -9,7 +8,7 @@ ghost use Rattle.view.specs.Counting.{holds};
 ghost use Rattle.view.specs.Listing.{stations as station-count, never-falls, shaped, row as row-of, bad-entry, bad-row, lowest-bad-row};
 
 /// How many stations the starts are for.
-pub(super) fn stations(starts: &[u32]) -> usize
+pub fn stations(starts: &[u32]) -> usize
     ensures { λ r. ⌜ r ≡ station-count (now (starts .entry)) ⌝ }
 {
     starts.len().saturating_sub(1)
@@ -37,16 +36,16 @@ pub(super) fn is_shaped(starts: &[u32], ends: &[u16]) -> bool
         && starts[stations(starts)] as usize == ends.len()
 }
 
-/// The row of a station; none if it is off the site.
-pub(super) fn row<'a>(starts: &[u32], ends: &'a [u16], s: usize) -> &'a [u16]
-    requires { ⌜ shaped (now starts) (now ends) ≡ true ⌝ }
+/// The row of a station in two lists of any shape; none if it is off the site.
+pub fn row<'a>(starts: &[u32], ends: &'a [u16], s: usize) -> &'a [u16]
     ensures { λ r. ⌜ now r ≡ row-of (now (starts .entry)) (now (ends .entry)) s ⌝ }
 {
-    if s < stations(starts) {
-        &ends[starts[s] as usize..starts[s + 1] as usize]
-    } else {
-        &[]
+    if s >= stations(starts) {
+        return &[];
     }
+    let from = starts[s] as usize;
+    let to = ends.len().min(starts[s + 1] as usize);
+    if from < to { &ends[from..to] } else { &[] }
 }
 
 /// The entry at a place of a row, if it has one.
@@ -73,8 +72,7 @@ fn lists(row: &[u16], s: usize) -> bool
 
 /// Whether one entry of a row is its own station, off the site, not above the entry before, or one-sided.
 fn entry_is_bad(starts: &[u32], ends: &[u16], s: usize, place: usize) -> bool
-    requires shape { ⌜ shaped (now starts) (now ends) ≡ true ⌝ }
-    requires within { ⌜ place < length (row-of (now starts) (now ends) s) ⌝ }
+    requires { ⌜ place < length (row-of (now starts) (now ends) s) ⌝ }
     ensures { λ r. ⌜ r ≡ bad-entry (now (starts .entry)) (now (ends .entry)) s place ⌝ }
 {
     let entries = row(starts, ends, s);
@@ -87,7 +85,6 @@ fn entry_is_bad(starts: &[u32], ends: &[u16], s: usize, place: usize) -> bool
 
 /// Whether some entry of a row is bad.
 fn row_is_bad(starts: &[u32], ends: &[u16], s: usize) -> bool
-    requires { ⌜ shaped (now starts) (now ends) ≡ true ⌝ }
     ensures { λ r. ⌜ r ≡ bad-row (now (starts .entry)) (now (ends .entry)) s ⌝ }
 {
     for place in 0..row(starts, ends, s).len() {
@@ -100,7 +97,6 @@ fn row_is_bad(starts: &[u32], ends: &[u16], s: usize) -> bool
 
 /// The lowest bad row, if there is one.
 pub(super) fn find_bad_row(starts: &[u32], ends: &[u16]) -> Option<usize>
-    requires { ⌜ shaped (now starts) (now ends) ≡ true ⌝ }
     ensures { λ r. ⌜ r ≡ lowest-bad-row (now (starts .entry)) (now (ends .entry)) ⌝ }
 {
     for s in 0..stations(starts) {
