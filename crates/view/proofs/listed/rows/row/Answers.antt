@@ -16,10 +16,10 @@ cut : (xs : List ℕ) (i j : ℕ) → between i (min (length xs) j) xs ≡ betwe
 cut xs i j =
     ⊎-elim
     (λ (h : length xs < j).
-      let whole : min (length xs) j ≡ length xs = omega arith in
-      ap (λ k. between i k xs) whole
-      ∙ take-all (length xs - i) (drop i xs) (omega (arith, length-drop i xs))
-      ∙ sym (take-all (j - i) (drop i xs) (omega (arith, length-drop i xs))))
+    let whole : min (length xs) j ≡ length xs = omega arith in
+    ap (λ k. between i k xs) whole
+    ∙ take-all (length xs - i) (drop i xs) (omega (arith, length-drop i xs))
+    ∙ sym (take-all (j - i) (drop i xs) (omega (arith, length-drop i xs))))
     (λ (h : j ≤ length xs). let short : min (length xs) j ≡ j = omega arith in ap (λ k. between i k xs) short)
     (cases-lt (length xs) j)
 

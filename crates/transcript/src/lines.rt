@@ -1,0 +1,47 @@
+//! The lines of the walkthrough, without their ends.
+
+ghost use mathlib.Core.Path.{_≡_};
+ghost use Rattle.std.specs.Of.String.{string-bytes};
+ghost use Rattle.std.specs.Vec.{made};
+ghost use Rattle.transcript.specs.Wording.{heading as heading-bytes, row-line, verdict-line};
+use crate::tables::Extent;
+use std::alloc::AllocError;
+use std::alloc::Global;
+use view::Refusal;
+
+/// `table of N stations, E ends`.
+pub fn heading(heap: Global, stations: usize, ends: usize) -> Result<String, AllocError>
+    ensures { λ r. ⌜ made r (λ line. string-bytes line ≡ heading-bytes stations ends) ⌝ }
+{
+    format!(heap, "table of {stations} stations, {ends} ends")
+}
+
+/// `row S: a b c`.
+pub fn row_line(heap: Global, station: usize, neighbours: &[u16]) -> Result<String, AllocError>
+    ensures { λ r. ⌜ made r (λ line. string-bytes line ≡ row-line station (now (neighbours .entry))) ⌝ }
+{
+    let mut line = format!(heap, "row {station}:")?;
+    for t in neighbours {
+        let word = format!(heap, " {t}")?;
+        line.push_str(word.as_str())?;
+    }
+    Ok(line)
+}
+
+/// `lawful: N stations, K links`, or `refused R place P`.
+pub fn verdict_line(heap: Global, verdict: Result<Extent, Refusal>) -> Result<String, AllocError>
+    ensures { λ r. ⌜ made r (λ line. string-bytes line ≡ verdict-line verdict) ⌝ }
+{
+    match verdict {
+        Ok(extent) => {
+            let stations = extent.stations;
+            let links = extent.links;
+            format!(heap, "lawful: {stations} stations, {links} links")
+        }
+        Err(refusal) => {
+            let number = refusal.number();
+            let place = refusal.place();
+            format!(heap, "refused {number} place {place}")
+        }
+    }
+}
