@@ -1,0 +1,3 @@
+pub mod Texts
+pub mod Cursors
+pub mod Laws
