@@ -9,6 +9,3 @@ pub use fault::UnreadDisplay;
 pub use fault::UnreadPartialEq;
 pub use rows::Table;
 pub use rows::read;
-
-#[cfg(test)]
-mod tests;

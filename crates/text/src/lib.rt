@@ -8,6 +8,3 @@ pub use cut::Lines;
 pub use cut::Token;
 pub use cut::Tokens;
 pub use numbers::decimal;
-
-#[cfg(test)]
-mod tests;

@@ -1,0 +1,77 @@
+//! Lines, words and numbers of a text, and the tables that texts write.
+
+use std::test::*;
+use tables::Unread;
+use tables::UnreadDebug;
+use tables::UnreadPartialEq;
+use text::Lines;
+use text::Tokens;
+use text::decimal;
+
+#[test]
+fn lines_end_at_a_line_feed() -> Result<(), Fail> {
+    check_eq(Lines::new(b"").next(), None)?;
+    let mut text = Lines::new(b"a\n\nb");
+    check_eq(text.next(), Some(&b"a"[..]))?;
+    check_eq(text.next(), Some(&b""[..]))?;
+    check_eq(text.next(), Some(&b"b"[..])).note("the last line needs no end")?;
+    check_eq(text.next(), None)?;
+    let mut text = Lines::new(b"\n");
+    check_eq(text.next(), Some(&b""[..]))?;
+    check_eq(text.next(), None)
+}
+
+/// The next word of a line, with its first byte counted from 1.
+fn next_of<'a>(words: &mut Tokens<'a>) -> Option<(usize, &'a [u8])> {
+    let token = words.next()?;
+    Some((token.byte, token.bytes))
+}
+
+#[test]
+fn words_are_parted_by_spaces() -> Result<(), Fail> {
+    check_eq(next_of(&mut Tokens::new(b"  ")), None)?;
+    let mut line = Tokens::new(b" 1  22 ");
+    check_eq(next_of(&mut line), Some((2, &b"1"[..])))?;
+    check_eq(next_of(&mut line), Some((5, &b"22"[..])))?;
+    check_eq(next_of(&mut line), None)
+}
+
+#[test]
+fn numbers_are_read() -> Result<(), Fail> {
+    let cases: [(&str, Option<u16>); 7] = [
+        ("0", Some(0)),
+        ("00007", Some(7)),
+        ("65535", Some(65535)),
+        ("65536", None),
+        ("000001", None),
+        ("", None),
+        ("1a", None),
+    ];
+    for (word, value) in cases {
+        check_eq(decimal(word.as_bytes(), 5), value).note(word)?;
+    }
+    Ok(())
+}
+
+#[test]
+fn tables_are_read(rt: LibcRuntime) -> Result<(), Fail> {
+    let ring = tables::read(rt.alloc(), b"1 2\n0 2\n0 1")?;
+    check_eq(ring.starts(), &[0, 2, 4, 6][..])?;
+    check_eq(ring.ends(), &[1, 2, 0, 2, 0, 1][..])?;
+    let none = tables::read(rt.alloc(), b"")?;
+    check_eq(none.starts(), &[0][..])?;
+    let alone = tables::read(rt.alloc(), b"\n")?;
+    check_eq(alone.starts(), &[0, 0][..])
+}
+
+#[test]
+fn the_first_fault_is_named(rt: LibcRuntime) -> Result<(), Fail> {
+    let heap = rt.alloc();
+    let word = tables::read(heap, b"0 x").err();
+    check_eq(word, Some(Unread::NotAStation { line: 1, byte: 3 }))?;
+    let large = tables::read(heap, b"1\n 70000").err();
+    check_eq(large, Some(Unread::NotAStation { line: 2, byte: 2 }))?;
+    let spaces = vec![in heap; b' '; 1_000_001]?;
+    let long = tables::read(heap, spaces.as_slice()).err();
+    check_eq(long, Some(Unread::TooLong))
+}
