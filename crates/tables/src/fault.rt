@@ -1,4 +1,4 @@
-// Why a text could not be read.
+//! Why a text could not be read.
 
 ghost use mathlib.Core.Path.{_≡_};
 ghost use Rattle.std.specs.declared.option.Option.the-variants.{Some};
@@ -10,9 +10,9 @@ use std::fmt;
 
 #[derive(Clone, Copy, PartialEq, Debug)]
 pub enum Unread {
-    // More than a million bytes.
+    /// More than a million bytes.
     TooLong,
-    // A word is no number of a station; its line and its first byte, both counted from 1.
+    /// A word is no number of a station; its line and its first byte, both counted from 1.
     NotAStation { line: usize, byte: usize },
     NoMemory,
 }

@@ -1,4 +1,4 @@
-// A table of neighbours written as text: a line for each station, with its neighbours parted by spaces.
+//! A table of neighbours written as text: a line for each station, with its neighbours parted by spaces.
 
 mod fault;
 mod rows;

@@ -1,4 +1,4 @@
-// Reads a table row by row.
+//! Reads a table row by row.
 
 ghost use mathlib.Core.Path.{_≡_};
 ghost use Prim.Native.Nat.{_+_, _≤_};
@@ -18,10 +18,10 @@ use text::Token;
 use text::Tokens;
 use text::decimal;
 
-// The longest text that is read, in bytes.
+/// The longest text that is read, in bytes.
 const LONGEST: usize = 1_000_000;
 
-// The ends of the links of all stations, and where those of each station start.
+/// The ends of the links of all stations, and where those of each station start.
 #[derive(Drop)]
 pub struct Table {
     starts: Vec<u32>,
@@ -41,7 +41,7 @@ impl Table {
         self.ends.as_slice()
     }
 
-    // Ends a row: the next one starts behind the ends so far.
+    /// Ends a row: the next one starts behind the ends so far.
     fn end_row(&mut self) -> Result<(), Unread>
         requires { ⌜ vec-len (now self .ends) ≤ 1000000 ⌝ }
         ensures { λ r. ⌜ Meant (Ok (row-ended (now (self .entry)))) (giving (λ _. listing-of (now (self .exit))) r) ⌝ }
@@ -51,7 +51,7 @@ impl Table {
     }
 }
 
-// The station that a word of the `n`-th line names.
+/// The station that a word of the `n`-th line names.
 fn station(token: Token, n: usize) -> Result<u16, Unread>
     ensures { λ r. ⌜ Meant (station-of n (part-of (token .entry))) r ⌝ }
 {
@@ -64,7 +64,7 @@ fn station(token: Token, n: usize) -> Result<u16, Unread>
     }
 }
 
-// Adds the stations of the `n`-th line.
+/// Adds the stations of the `n`-th line.
 fn read_line(ends: &mut Vec<u16>, line: &[u8], n: usize) -> Result<(), Unread>
     ensures said { λ r. ⌜ Meant (with-row (vec-items (now (ends .entry))) (row-of n (tokens-of (now (line .entry))))) (giving (λ _. vec-items (now (ends .exit))) r) ⌝ }
     ensures few { λ _. ⌜ vec-len (now (ends .exit)) ≤ vec-len (now (ends .entry)) + length (now (line .entry)) ⌝ }
@@ -77,7 +77,7 @@ fn read_line(ends: &mut Vec<u16>, line: &[u8], n: usize) -> Result<(), Unread>
     Ok(())
 }
 
-// The table of the rows of a text.
+/// The table of the rows of a text.
 fn read_rows(heap: Global, text: &[u8]) -> Result<Table, Unread>
     requires { ⌜ length (now text) ≤ 1000000 ⌝ }
     ensures { λ r. ⌜ Meant (listed (rows-of 1 (lines (now (text .entry))))) (giving listing-of r) ⌝ }
@@ -96,7 +96,7 @@ fn read_rows(heap: Global, text: &[u8]) -> Result<Table, Unread>
     Ok(table)
 }
 
-// The table that a text of at most a million bytes writes; its first line is that of station 0.
+/// The table that a text of at most a million bytes writes; its first line is that of station 0.
 pub fn read(heap: Global, text: &[u8]) -> Result<Table, Unread>
     ensures { λ r. ⌜ Meant (table-of (now (text .entry))) (giving listing-of r) ⌝ }
 {

@@ -1,4 +1,4 @@
-// Cuts a text into its lines, and a line into its words.
+//! Cuts a text into its lines, and a line into its words.
 
 ghost use mathlib.Core.Bool.{false};
 ghost use mathlib.Core.List.{[]};
@@ -10,7 +10,7 @@ ghost use Rattle.std.specs.Options.{Cases};
 ghost use Rattle.text.specs.Texts.{upto, lines, tokens-of};
 ghost use Rattle.text.specs.Cursors.{lines-left, unread, tokens-at, tokens-left, unread-of, FirstLine, NoLine, NextLine, FirstToken, NoToken, NextToken};
 
-// The first place from `from` on that is no space.
+/// The first place from `from` on that is no space.
 fn skip_spaces(line: &[u8], from: usize) -> usize
     ensures past { λ r. ⌜ from ≤ r ⌝ }
     ensures stops { λ r. ⌜ (r < length (now (line .entry)) → eqb (getD (now (line .entry)) r 0) 32 ≡ false) ⌝ }
@@ -23,7 +23,7 @@ fn skip_spaces(line: &[u8], from: usize) -> usize
     at
 }
 
-// Where `stop` stands first from `from` on, or the end.
+/// Where `stop` stands first from `from` on, or the end.
 fn until(bytes: &[u8], from: usize, stop: u8) -> usize
     requires { ⌜ from ≤ length (now bytes) ⌝ }
     ensures past { λ r. ⌜ from ≤ r ⌝ }
@@ -37,7 +37,7 @@ fn until(bytes: &[u8], from: usize, stop: u8) -> usize
     end
 }
 
-// The lines of a text that are still to come.
+/// The lines of a text that are still to come.
 #[derive(Drop)]
 pub struct Lines<'a> {
     rest: &'a [u8],
@@ -51,7 +51,7 @@ impl<'a> Lines<'a> {
         Lines { rest: text }
     }
 
-    // The next line, without its LF.
+    /// The next line, without its LF.
     pub fn next(&mut self) -> Option<&'a [u8]>
         ensures { λ r. ⌜ Cases r (NoLine (now (self .entry)) (now (self .exit))) (λ line. NextLine (now (self .entry)) (now (self .exit)) (now line)) ⌝ }
     {
@@ -64,7 +64,7 @@ impl<'a> Lines<'a> {
     }
 }
 
-// The first line of a text, and the text behind it.
+/// The first line of a text, and the text behind it.
 fn first_line<'a>(text: &'a [u8]) -> (&'a [u8], &'a [u8])
     requires { ⌜ 0 < length (now text) ⌝ }
     ensures { λ r. ⌜ FirstLine (now (text .entry)) (now (r .0)) (now (r .1)) ⌝ }
@@ -75,14 +75,14 @@ fn first_line<'a>(text: &'a [u8]) -> (&'a [u8], &'a [u8])
     (&text[0..end], &text[next..text.len()])
 }
 
-// A word of a line, and the place of its first byte, counted from 1.
+/// A word of a line, and the place of its first byte, counted from 1.
 #[derive(Clone, Copy)]
 pub struct Token<'a> {
     pub byte: usize,
     pub bytes: &'a [u8],
 }
 
-// The words of a line that are still to come.
+/// The words of a line that are still to come.
 #[derive(Drop)]
 pub struct Tokens<'a> {
     line: &'a [u8],
@@ -97,7 +97,7 @@ impl<'a> Tokens<'a> {
         Tokens { line, at: 0 }
     }
 
-    // The next word, up to the space behind it.
+    /// The next word, up to the space behind it.
     pub fn next(&mut self) -> Option<Token<'a>>
         ensures { λ r. ⌜ Cases r (NoToken (now (self .entry)) (now (self .exit))) (λ token. NextToken (now (self .entry)) (now (self .exit)) token) ⌝ }
     {
@@ -107,7 +107,7 @@ impl<'a> Tokens<'a> {
     }
 }
 
-// The first word of a line from an index on.
+/// The first word of a line from an index on.
 fn token_from<'a>(line: &'a [u8], from: usize) -> Option<Token<'a>>
     ensures { λ r. ⌜ Cases r (tokens-at (now (line .entry)) from ≡ []) (λ token. FirstToken (now (line .entry)) from token) ⌝ }
 {

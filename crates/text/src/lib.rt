@@ -1,4 +1,4 @@
-// Lines, words and decimal numbers of a text of bytes.
+//! Lines, words and decimal numbers of a text of bytes.
 
 mod cut;
 pub mod laws;

@@ -1,9 +1,9 @@
-// Decimal numbers.
+//! Decimal numbers.
 
 ghost use mathlib.Core.Path.{_≡_};
 ghost use Rattle.text.specs.Texts.{value-of, decimal-of};
 
-// The value of one to `most` digits, if it fits 16 bits. Leading zeros are allowed.
+/// The value of one to `most` digits, if it fits 16 bits. Leading zeros are allowed.
 pub fn decimal(bytes: &[u8], most: usize) -> Option<u16>
     ensures { λ r. ⌜ r ≡ decimal-of most (now (bytes .entry)) ⌝ }
 {
@@ -13,7 +13,7 @@ pub fn decimal(bytes: &[u8], most: usize) -> Option<u16>
     value(bytes)
 }
 
-// The value of digits, if it fits 16 bits.
+/// The value of digits, if it fits 16 bits.
 fn value(bytes: &[u8]) -> Option<u16>
     ensures { λ r. ⌜ r ≡ value-of (now (bytes .entry)) ⌝ }
 {

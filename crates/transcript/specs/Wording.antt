@@ -6,8 +6,8 @@ use Rattle.std.specs.Written.{decimal}
 use Rattle.std.specs.shelf.Lists.{joined}
 use Rattle.std.specs.declared.result.Result.{Result}
 use Rattle.std.specs.declared.result.Result.the-variants.{Ok, Err}
-use Rattle.view.specs.declared.refusals.Refusal.{Refusal}
-use Rattle.view.specs.Refusals.{number-of, place-of}
+use Rattle.refusals.specs.declared.Refusal.{Refusal}
+use Rattle.refusals.specs.Refusals.{number-of, place-of}
 use Rattle.transcript.specs.declared.tables.Extent.{Extent}
 
 -- `table of N stations, E ends`
@@ -20,7 +20,7 @@ listed neighbours = joined (λ t. codes " " ++ decimal t) neighbours
 
 -- `row S: a b c`
 abbrev pub row-line : ℕ → List ℕ → List ℕ
-row-line s neighbours = codes "row " ++ (decimal s ++ (codes ":" ++ listed neighbours))
+row-line s neighbours = (codes "row " ++ (decimal s ++ codes ":")) ++ listed neighbours
 
 -- `lawful: N stations, K links` or `refused R place P`
 abbrev pub verdict-line : Result Extent Refusal → List ℕ

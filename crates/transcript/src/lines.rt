@@ -1,9 +1,10 @@
 //! The lines of the walkthrough, without their ends.
 
 ghost use mathlib.Core.Path.{_≡_};
+ghost use mathlib.Core.List.{_++_};
 ghost use Rattle.std.specs.Of.String.{string-bytes};
 ghost use Rattle.std.specs.Vec.{made};
-ghost use Rattle.transcript.specs.Wording.{heading as heading-bytes, row-line, verdict-line};
+ghost use Rattle.transcript.specs.Wording.{heading as heading-bytes, listed, row-line, verdict-line};
 use crate::tables::Extent;
 use std::alloc::AllocError;
 use std::alloc::Global;
@@ -16,15 +17,23 @@ pub fn heading(heap: Global, stations: usize, ends: usize) -> Result<String, All
     format!(heap, "table of {stations} stations, {ends} ends")
 }
 
+/// Adds stations to a line, each after a space.
+fn add_stations(line: &mut String, heap: Global, stations: &[u16]) -> Result<(), AllocError>
+    ensures { λ r. ⌜ made r (λ _. string-bytes (now (line .exit)) ≡ string-bytes (now (line .entry)) ++ listed (now (stations .entry))) ⌝ }
+{
+    for t in stations {
+        let word = format!(heap, " {t}")?;
+        line.push_str(word.as_str())?;
+    }
+    Ok(())
+}
+
 /// `row S: a b c`.
 pub fn row_line(heap: Global, station: usize, neighbours: &[u16]) -> Result<String, AllocError>
     ensures { λ r. ⌜ made r (λ line. string-bytes line ≡ row-line station (now (neighbours .entry))) ⌝ }
 {
     let mut line = format!(heap, "row {station}:")?;
-    for t in neighbours {
-        let word = format!(heap, " {t}")?;
-        line.push_str(word.as_str())?;
-    }
+    add_stations(&mut line, heap, neighbours)?;
     Ok(line)
 }
 

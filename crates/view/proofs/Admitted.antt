@@ -7,9 +7,9 @@ use native.Mathlib.Omega.{arith}
 use lib.Dec.{leb}
 use Rattle.std.specs.declared.result.Result.the-variants.{Ok, Err}
 use Rattle.std.proofs.shelf.Tests.{and-parts, cases-bool, cond-false, leb-true}
-use Rattle.view.specs.declared.refusals.Refusal.the-variants.{CountOutOfRange}
+use Rattle.refusals.specs.declared.Refusal.the-variants.{CountOutOfRange}
 use Rattle.view.specs.Site.{sized}
-use Rattle.view.specs.Refusals.{counted}
+use Rattle.view.specs.Answers.{counted}
 
 pub admitted : (n : ℕ) (u : Unit {0}) → Ok u ≡ counted n → sized n ≡ true
 admitted n u h =

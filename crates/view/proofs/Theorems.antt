@@ -12,8 +12,8 @@ use Rattle.std.specs.declared.option.Option.{Option}
 use Rattle.std.specs.declared.option.Option.the-variants.{Some, None}
 use Rattle.std.specs.declared.result.Result.the-variants.{Ok, Err}
 use Rattle.std.proofs.shelf.Tests.{and-parts, and-from, cases-bool, cases-eq, cases-lt, both-ways, eq-eqb, ne-eqb, lt-ltb, ltb-true, leb-true, eqb-true, le-leb, lt-leb, or-from, and-left, and-right, le-ltb, not-from-true, cond-true, cond-false}
-use Rattle.view.specs.declared.refusals.TableFault.the-variants.{Shape as BadShape, Row as BadRow}
-use Rattle.view.specs.declared.refusals.Refusal.the-variants.{UnlawfulTable}
+use Rattle.refusals.specs.declared.TableFault.the-variants.{Shape as BadShape, Row as BadRow}
+use Rattle.refusals.specs.declared.Refusal.the-variants.{UnlawfulTable}
 use Rattle.view.specs.Counting.{bit, count, total, all, some, or-else, lowest, times, holds}
 use Rattle.view.specs.Site.{Site, Lawful, sized, link-count}
 use Rattle.view.specs.Rows.{Faithful}

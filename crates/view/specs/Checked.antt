@@ -7,9 +7,9 @@ use Rattle.std.specs.declared.option.Option.{Option}
 use Rattle.std.specs.declared.option.Option.the-variants.{Some, None}
 use Rattle.std.specs.declared.result.Result.{Result}
 use Rattle.std.specs.declared.result.Result.the-variants.{Ok, Err}
-use Rattle.view.specs.declared.refusals.TableFault.the-variants.{Shape, Row}
-use Rattle.view.specs.declared.refusals.Refusal.{Refusal}
-use Rattle.view.specs.declared.refusals.Refusal.the-variants.{UnlawfulTable}
+use Rattle.refusals.specs.declared.TableFault.the-variants.{Shape, Row}
+use Rattle.refusals.specs.declared.Refusal.{Refusal}
+use Rattle.refusals.specs.declared.Refusal.the-variants.{UnlawfulTable}
 use Rattle.view.specs.Site.{Site, no-stations, sized}
 use Rattle.view.specs.Listing.{stations, shaped, lowest-bad-row, site-of}
 

@@ -1,7 +1,7 @@
 pub mod Counting
 pub mod Site
 pub mod Rows
-pub mod Refusals
+pub mod Answers
 pub mod Listing
 pub mod Checked
 pub mod Tables

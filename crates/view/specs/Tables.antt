@@ -6,10 +6,10 @@ use Prim.Native.Nat.{ℕ, _+_, _-_, _<_, _≤_}
 use lib.ListN.{length, getD}
 use Rattle.std.specs.declared.result.Result.{Result}
 use Rattle.std.specs.declared.result.Result.the-variants.{Ok, Err}
-use Rattle.view.specs.declared.refusals.TableFault.{TableFault}
-use Rattle.view.specs.declared.refusals.TableFault.the-variants.{Shape as BadShape, Row as BadRow}
-use Rattle.view.specs.declared.refusals.Refusal.{Refusal}
-use Rattle.view.specs.declared.refusals.Refusal.the-variants.{UnlawfulTable}
+use Rattle.refusals.specs.declared.TableFault.{TableFault}
+use Rattle.refusals.specs.declared.TableFault.the-variants.{Shape as BadShape, Row as BadRow}
+use Rattle.refusals.specs.declared.Refusal.{Refusal}
+use Rattle.refusals.specs.declared.Refusal.the-variants.{UnlawfulTable}
 use Rattle.view.specs.Counting.{holds}
 use Rattle.view.specs.Listing.{stations, row}
 

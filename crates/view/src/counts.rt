@@ -2,7 +2,7 @@
 
 ghost use mathlib.Core.Path.{_≡_};
 ghost use Rattle.view.specs.Site.{sized};
-ghost use Rattle.view.specs.Refusals.{counted};
+ghost use Rattle.view.specs.Answers.{counted};
 use crate::Refusal;
 
 /// Whether a station count is 1 to 512.

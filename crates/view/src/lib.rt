@@ -13,7 +13,6 @@ pub mod laws;
 mod lent;
 pub mod links;
 pub mod listed;
-mod refusals;
 
 pub use lent::LentView;
 pub use refusals::Refusal;

@@ -3,7 +3,7 @@
 ghost use mathlib.Core.Path.{_≡_};
 ghost use Prim.Native.Nat.{_≤_};
 ghost use Rattle.view.specs.Counting.{count, total};
-ghost use Rattle.view.specs.Refusals.{links-answer};
+ghost use Rattle.view.specs.Answers.{links-answer};
 use crate::Refusal;
 use crate::View;
 use crate::counts::admit;

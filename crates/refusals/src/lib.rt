@@ -1,7 +1,7 @@
 //! What is turned down: one enum for every call of the planner.
 
 ghost use mathlib.Core.Path.{_≡_};
-ghost use Rattle.view.specs.Refusals.{number-of, place-of, row-of-fault};
+ghost use Rattle.refusals.specs.Refusals.{number-of, place-of, row-of-fault};
 
 /// Why a table of links is not lawful.
 #[derive(Clone, Copy, PartialEq, Eq, Debug)]

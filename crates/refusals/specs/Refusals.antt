@@ -1,12 +1,9 @@
 -- The number and the place of each refusal. Assumes nothing.
-use mathlib.Core.Bool.{cond}
 use Prim.Native.Nat.{ℕ}
-use Rattle.std.specs.declared.result.Result.{Result}
-use Rattle.std.specs.declared.result.Result.the-variants.{Ok, Err}
-use Rattle.view.specs.declared.refusals.TableFault.{TableFault}
-use Rattle.view.specs.declared.refusals.TableFault.the-variants.{Shape, Row}
-use Rattle.view.specs.declared.refusals.Refusal.{Refusal}
-use Rattle.view.specs.declared.refusals.Refusal.the-variants.{
+use Rattle.refusals.specs.declared.TableFault.{TableFault}
+use Rattle.refusals.specs.declared.TableFault.the-variants.{Shape, Row}
+use Rattle.refusals.specs.declared.Refusal.{Refusal}
+use Rattle.refusals.specs.declared.Refusal.the-variants.{
   CountOutOfRange,
   OffSite,
   EqualEnds,
@@ -23,7 +20,6 @@ use Rattle.view.specs.declared.refusals.Refusal.the-variants.{
   TextTooLong,
   UnlawfulTable,
 }
-use Rattle.view.specs.Site.{Site, sized, link-count}
 
 -- The number of a refusal, 1 to 15.
 abbrev pub number-of : Refusal → ℕ
@@ -65,11 +61,3 @@ place-of (HomeOrUpWrong station) = station
 place-of CountsDiffer = 0
 place-of TextTooLong = 0
 place-of (UnlawfulTable fault) = row-of-fault fault
-
--- A station count outside 1 to 512 is refused.
-abbrev pub counted : ℕ → Result (Unit {0}) Refusal
-counted n = cond (sized n) (Ok tt) (Err CountOutOfRange)
-
--- how many links a site of 1 to 512 stations has
-abbrev pub links-answer : Site → Result ℕ Refusal
-links-answer g = cond (sized (g .size)) (Ok (link-count g)) (Err CountOutOfRange)
