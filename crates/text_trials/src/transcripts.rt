@@ -1,17 +1,27 @@
 //! The lines of the walkthrough that its own run in the gate does not show.
 
+use std::alloc::AllocError;
 use std::alloc::Global;
-use std::error::AnyError;
 use std::test::*;
+use tables::Table;
 use tables::UnreadDisplay;
-use transcript::judge;
-use transcript::verdict_line;
+use transcript::lawful_line;
+use transcript::refusal_line;
+use view::listed::measure;
+
+/// What the walkthrough tells of a table.
+fn verdict(heap: Global, table: &Table) -> Result<String, AllocError> {
+    match measure(table.starts(), table.ends()) {
+        Ok(extent) => lawful_line(heap, extent.stations, extent.links),
+        Err(refusal) => refusal_line(heap, refusal),
+    }
+}
 
 /// What the walkthrough tells last of a text.
-fn last_line(heap: Global, text: &str) -> Result<String, AnyError> {
+fn last_line(heap: Global, text: &str) -> Result<String, AllocError> {
     match tables::read(heap, text.as_bytes()) {
-        Ok(table) => Ok(verdict_line(heap, judge(table.starts(), table.ends()))?),
-        Err(unread) => Ok(format!(heap, "{unread}")?),
+        Ok(table) => verdict(heap, &table),
+        Err(unread) => format!(heap, "{unread}"),
     }
 }
 

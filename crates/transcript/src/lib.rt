@@ -1,10 +1,8 @@
-//! What the walkthrough tells, and the lines that tell it.
+//! The lines that tell what was read and found.
 
 mod lines;
-mod tables;
 
 pub use lines::heading;
+pub use lines::lawful_line;
+pub use lines::refusal_line;
 pub use lines::row_line;
-pub use lines::verdict_line;
-pub use tables::Extent;
-pub use tables::judge;

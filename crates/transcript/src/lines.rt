@@ -4,11 +4,10 @@ ghost use mathlib.Core.Path.{_≡_};
 ghost use mathlib.Core.List.{_++_};
 ghost use Rattle.std.specs.Of.String.{string-bytes};
 ghost use Rattle.std.specs.Vec.{made};
-ghost use Rattle.transcript.specs.Wording.{heading as heading-bytes, listed, row-line, verdict-line};
-use crate::tables::Extent;
+ghost use Rattle.transcript.specs.Wording.{heading as heading-bytes, listed, row-line, lawful-line, refusal-line};
+use refusals::Refusal;
 use std::alloc::AllocError;
 use std::alloc::Global;
-use view::Refusal;
 
 /// `table of N stations, E ends`.
 pub fn heading(heap: Global, stations: usize, ends: usize) -> Result<String, AllocError>
@@ -37,20 +36,19 @@ pub fn row_line(heap: Global, station: usize, neighbours: &[u16]) -> Result<Stri
     Ok(line)
 }
 
-/// `lawful: N stations, K links`, or `refused R place P`.
-pub fn verdict_line(heap: Global, verdict: Result<Extent, Refusal>) -> Result<String, AllocError>
-    ensures { λ r. ⌜ made r (λ line. string-bytes line ≡ verdict-line verdict) ⌝ }
+/// `lawful: N stations, K links`.
+pub fn lawful_line(heap: Global, stations: usize, links: usize) -> Result<String, AllocError>
+    ensures { λ r. ⌜ made r (λ line. string-bytes line ≡ lawful-line stations links) ⌝ }
 {
-    match verdict {
-        Ok(extent) => {
-            let stations = extent.stations;
-            let links = extent.links;
-            format!(heap, "lawful: {stations} stations, {links} links")
-        }
-        Err(refusal) => {
-            let number = refusal.number();
-            let place = refusal.place();
-            format!(heap, "refused {number} place {place}")
-        }
-    }
+    format!(heap, "lawful: {stations} stations, {links} links")
+}
+
+/// `refused R place P`.
+pub fn refusal_line(heap: Global, refusal: Refusal) -> Result<String, AllocError>
+    ensures { λ r. ⌜ made r (λ line. string-bytes line ≡ refusal-line refusal) ⌝ }
+{
+    let number = refusal.number();
+    let place = refusal.place();
+    let line = format!(heap, "refused {number} place {place}")?;
+    Ok(line)
 }

@@ -7,11 +7,14 @@ ghost use Rattle.view.specs.Listing.{sound};
 
 mod answers;
 mod checks;
+mod extents;
 mod opens;
 mod rows;
 
 pub use answers::ListedView;
 pub use checks::check;
+pub use extents::Extent;
+pub use extents::measure;
 pub use rows::row;
 pub use rows::stations;
 

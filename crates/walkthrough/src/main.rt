@@ -6,9 +6,10 @@ use tables::Table;
 use tables::Unread;
 use tables::UnreadDisplay;
 use transcript::heading;
-use transcript::judge;
+use transcript::lawful_line;
+use transcript::refusal_line;
 use transcript::row_line;
-use transcript::verdict_line;
+use view::listed::measure;
 use view::listed::row;
 use view::listed::stations;
 
@@ -21,11 +22,12 @@ fn tell(rt: &LibcRuntime, table: &Table) -> Result<(), AnyError> {
     for s in 0..stations(starts) {
         rt.println(row_line(heap, s, row(starts, ends, s))?)?;
     }
-    let verdict = judge(starts, ends);
-    rt.println(verdict_line(heap, verdict)?)?;
-    match verdict {
-        Ok(_) => Ok(()),
-        Err(_) => Err("the table is not lawful".into()),
+    match measure(starts, ends) {
+        Ok(extent) => Ok(rt.println(lawful_line(heap, extent.stations, extent.links)?)?),
+        Err(refusal) => {
+            rt.println(refusal_line(heap, refusal)?)?;
+            Err("the table is not lawful".into())
+        }
     }
 }
 

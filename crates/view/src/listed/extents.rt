@@ -1,13 +1,13 @@
-//! The verdict on a table of links.
+//! How large the site of a table is.
 
 ghost use mathlib.Core.Path.{_≡_};
-ghost use Rattle.transcript.specs.Judged.{judged};
-use view::Refusal;
-use view::View;
-use view::links::count_links;
-use view::listed::Listed;
-use view::listed::ListedView;
-use view::listed::check;
+ghost use Rattle.view.specs.Extents.{measured};
+use super::Listed;
+use super::answers::ListedView;
+use super::checks::check;
+use crate::Refusal;
+use crate::View;
+use crate::links::count_links;
 
 /// How large a site is.
 #[derive(Clone, Copy)]
@@ -17,8 +17,8 @@ pub struct Extent {
 }
 
 /// Judges a table, and counts the stations and links of a lawful one.
-pub fn judge<'a>(starts: &'a [u32], ends: &'a [u16]) -> Result<Extent, Refusal>
-    ensures { λ r. ⌜ r ≡ judged (now (starts .entry)) (now (ends .entry)) ⌝ }
+pub fn measure<'a>(starts: &'a [u32], ends: &'a [u16]) -> Result<Extent, Refusal>
+    ensures { λ r. ⌜ r ≡ measured (now (starts .entry)) (now (ends .entry)) ⌝ }
 {
     check(starts, ends)?;
     let view = Listed::open(starts, ends);
