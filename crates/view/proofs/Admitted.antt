@@ -8,7 +8,7 @@ use lib.Dec.{leb}
 use Rattle.std.specs.declared.result.Result.the-variants.{Ok, Err}
 use Rattle.std.proofs.shelf.Tests.{and-parts, cases-bool, cond-false, leb-true}
 use Rattle.refusals.specs.declared.Refusal.the-variants.{CountOutOfRange}
-use Rattle.view.specs.Site.{sized}
+use Rattle.cores.specs.Site.{sized}
 use Rattle.view.specs.Answers.{counted}
 
 pub admitted : (n : ℕ) (u : Unit {0}) → Ok u ≡ counted n → sized n ≡ true

@@ -14,8 +14,8 @@ use Rattle.std.specs.declared.result.Result.the-variants.{Err}
 use Rattle.std.proofs.shelf.Tests.{and-parts, and-from, both-ways, cases-bool, cond-false, cond-true, le-ltb}
 use Rattle.refusals.specs.declared.TableFault.the-variants.{Shape}
 use Rattle.refusals.specs.declared.Refusal.the-variants.{UnlawfulTable}
-use Rattle.view.specs.Counting.{all, lowest, times, holds}
-use Rattle.view.specs.Site.{Site, no-stations, sized}
+use Rattle.cores.specs.Counting.{all, lowest, times, holds}
+use Rattle.cores.specs.Site.{Site, no-stations, sized}
 use Rattle.view.specs.Listing.{stations, never-falls, shaped, row, lowest-bad-row, sound, site-of}
 use Rattle.view.specs.Checked.{unless-bad, checked}
 use Rattle.view.specs.Witness.Listings.{row-out}

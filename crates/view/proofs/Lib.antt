@@ -1,5 +1,4 @@
 pub mod Admitted
 pub mod Checks
 pub mod Rows
-pub mod Sums
 pub mod Theorems

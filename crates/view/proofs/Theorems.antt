@@ -14,27 +14,18 @@ use Rattle.std.specs.declared.result.Result.the-variants.{Ok, Err}
 use Rattle.std.proofs.shelf.Tests.{and-parts, and-from, cases-bool, cases-eq, cases-lt, both-ways, eq-eqb, ne-eqb, lt-ltb, ltb-true, leb-true, eqb-true, le-leb, lt-leb, or-from, and-left, and-right, le-ltb, not-from-true, cond-true, cond-false}
 use Rattle.refusals.specs.declared.TableFault.the-variants.{Shape as BadShape, Row as BadRow}
 use Rattle.refusals.specs.declared.Refusal.the-variants.{UnlawfulTable}
-use Rattle.view.specs.Counting.{bit, count, total, all, some, or-else, lowest, times, holds}
-use Rattle.view.specs.Site.{Site, Lawful, sized, link-count}
+use Rattle.cores.specs.Counting.{bit, count, total, all, some, or-else, lowest, times, holds}
+use Rattle.cores.specs.Site.{Site, Lawful, sized, link-count}
 use Rattle.view.specs.Rows.{Faithful}
 use Rattle.view.specs.Listing.{stations, never-falls, shaped, row, bad-entry, bad-row, lowest-bad-row}
 use Rattle.view.specs.Checked.{unless-bad, checked}
 use Rattle.view.specs.Tables.{Shape, Entry, Good-row, Well-shaped, Fault, Verdict}
-use Rattle.view.specs.Laws.{Found, The-lowest-is-the-first-that-passes, Stations-off-the-site-have-no-neighbours, Each-link-has-two-ends, The-check-judges-in-words}
-use Rattle.view.specs.Witness.Counting.{bit-false, all-at, some-at, times-at}
+use Rattle.cores.specs.Laws.{Found}
+use Rattle.cores.proofs.Theorems.{lowest-first}
+use Rattle.view.specs.Laws.{Stations-off-the-site-have-no-neighbours, The-check-judges-in-words}
+use Rattle.cores.proofs.Counting.{bit-false, all-at, some-at, times-at}
 use Rattle.view.specs.Witness.Listings.{good-entry}
 use Rattle.view.proofs.Admitted.{sized-within}
-use Rattle.view.proofs.Sums.{total-same, total-add, count-total}
-
-pub lowest-first : The-lowest-is-the-first-that-passes
-unfolding lowest
-lowest-first zero p = λ t h. absurd (omega arith)
-lowest-first (suc n) p = step (lowest n p) (lowest-first n p) (p n) refl
-  where
-    step : (o : Option ℕ) → Found n p o → (b : Bool) → p n ≡ b → Found (suc n) p (or-else o (cond b (Some n) None))
-    step (Some k) (l, yes′, first) b e = (omega arith, yes′, first)
-    step None none true e = (omega arith, e, none)
-    step None none false e = λ t h. ⊎-elim (λ (d : t ≡ n). ap p d ∙ e) (λ (d : t ≡ n → ⊥). none t (omega arith)) (cases-eq t n)
 
 pub off-site-none : Stations-off-the-site-have-no-neighbours
 off-site-none g row law s h = empty (row s) (λ t. unheard t (cases-bool (g .linked s t)))
@@ -46,17 +37,6 @@ off-site-none g row law s h = empty (row s) (λ t. unheard t (cases-bool (g .lin
     empty : (xs : List ℕ) → ((t : ℕ) → times t xs ≡ 0) → xs ≡ []
     empty [] none = refl
     empty (x ∷ xs) none = absurd (omega (arith, none x, times-at x (x ∷ xs) 0 (omega arith) refl))
-
--- one station more adds its links to lower ones twice: at itself, and at each of those
-pub two-ends : Each-link-has-two-ends
-unfolding total count
-two-ends g law = twice (g .size)
-  where
-    twice : (n : ℕ) → total n (λ s. count n (g .linked s)) ≡ 2 * total n (λ s. count s (g .linked s))
-    twice zero = refl
-    twice (suc n) =
-        let to-n : total n (λ s. bit (g .linked s n)) ≡ total n (λ s. bit (g .linked n s)) = total-same n (λ s. bit (g .linked s n)) (λ s. bit (g .linked n s)) (λ s h. ap bit (law .both-ways s n)) in
-        omega (arith, twice n, total-add n (λ s. count n (g .linked s)) (λ s. bit (g .linked s n)), to-n, count-total n (g .linked n), bit-false (g .linked n n) (law .apart n))
 
 -- the tests of a table answer as the words do
 shape : (starts ends : List ℕ) → shaped starts ends ≡ true → Shape starts ends

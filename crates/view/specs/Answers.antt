@@ -5,7 +5,7 @@ use Rattle.std.specs.declared.result.Result.{Result}
 use Rattle.std.specs.declared.result.Result.the-variants.{Ok, Err}
 use Rattle.refusals.specs.declared.Refusal.{Refusal}
 use Rattle.refusals.specs.declared.Refusal.the-variants.{CountOutOfRange}
-use Rattle.view.specs.Site.{Site, sized, link-count}
+use Rattle.cores.specs.Site.{Site, sized, link-count}
 
 -- A station count outside 1 to 512 is refused.
 abbrev pub counted : ℕ → Result (Unit {0}) Refusal

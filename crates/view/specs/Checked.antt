@@ -10,7 +10,7 @@ use Rattle.std.specs.declared.result.Result.the-variants.{Ok, Err}
 use Rattle.refusals.specs.declared.TableFault.the-variants.{Shape, Row}
 use Rattle.refusals.specs.declared.Refusal.{Refusal}
 use Rattle.refusals.specs.declared.Refusal.the-variants.{UnlawfulTable}
-use Rattle.view.specs.Site.{Site, no-stations, sized}
+use Rattle.cores.specs.Site.{Site, no-stations, sized}
 use Rattle.view.specs.Listing.{stations, shaped, lowest-bad-row, site-of}
 
 -- a bad row is refused by its station

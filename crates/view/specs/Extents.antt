@@ -5,7 +5,7 @@ use Rattle.std.specs.declared.result.Result.{Result}
 use Rattle.std.specs.declared.result.Result.the-variants.{Ok, Err}
 use Rattle.refusals.specs.declared.Refusal.{Refusal}
 use Rattle.view.specs.declared.listed.extents.Extent.{Extent}
-use Rattle.view.specs.Site.{Site, link-count}
+use Rattle.cores.specs.Site.{Site, link-count}
 use Rattle.view.specs.Listing.{site-of}
 use Rattle.view.specs.Checked.{checked}
 

@@ -1,5 +1,3 @@
-pub mod Counting
-pub mod Site
 pub mod Rows
 pub mod Answers
 pub mod Listing

@@ -7,8 +7,8 @@ use lib.ListN.{length, getD}
 use Rattle.std.specs.Holes.{between}
 use Rattle.std.specs.Options.{isSome}
 use Rattle.std.specs.declared.option.Option.{Option}
-use Rattle.view.specs.Counting.{all, some, lowest, holds}
-use Rattle.view.specs.Site.{Site}
+use Rattle.cores.specs.Counting.{all, some, lowest, holds}
+use Rattle.cores.specs.Site.{Site}
 
 -- how many stations there are: each has a start, and one more start ends the last row
 abbrev pub stations : List ℕ → ℕ

@@ -3,8 +3,8 @@ use mathlib.Core.Path.{_≡_}
 use mathlib.Core.List.{List}
 use Prim.Native.Nat.{ℕ, _+_, _<_}
 use lib.ListN.{length, getD}
-use Rattle.view.specs.Counting.{bit, times}
-use Rattle.view.specs.Site.{Site, Lawful}
+use Rattle.cores.specs.Counting.{bit, times}
+use Rattle.cores.specs.Site.{Site, Lawful}
 
 -- each entry is above the one before
 abbrev pub Rising : List ℕ → Type 0

@@ -10,7 +10,7 @@ use Rattle.refusals.specs.declared.TableFault.{TableFault}
 use Rattle.refusals.specs.declared.TableFault.the-variants.{Shape as BadShape, Row as BadRow}
 use Rattle.refusals.specs.declared.Refusal.{Refusal}
 use Rattle.refusals.specs.declared.Refusal.the-variants.{UnlawfulTable}
-use Rattle.view.specs.Counting.{holds}
+use Rattle.cores.specs.Counting.{holds}
 use Rattle.view.specs.Listing.{stations, row}
 
 -- The starts cut the ends into rows.

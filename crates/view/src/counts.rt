@@ -1,7 +1,7 @@
 //! The station counts that the planner takes.
 
 ghost use mathlib.Core.Path.{_≡_};
-ghost use Rattle.view.specs.Site.{sized};
+ghost use Rattle.cores.specs.Site.{sized};
 ghost use Rattle.view.specs.Answers.{counted};
 use crate::Refusal;
 

@@ -5,7 +5,7 @@ ghost use mathlib.Core.List.{List};
 ghost use Prim.Native.Nat.{ℕ};
 ghost use lib.ListN.{length};
 ghost use Rattle.std.specs.Finite.{nth};
-ghost use Rattle.view.specs.Site.{Site};
+ghost use Rattle.cores.specs.Site.{Site};
 ghost use Rattle.view.specs.Rows.{Faithful};
 
 pub mod counts;

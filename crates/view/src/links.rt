@@ -2,7 +2,7 @@
 
 ghost use mathlib.Core.Path.{_≡_};
 ghost use Prim.Native.Nat.{_≤_};
-ghost use Rattle.view.specs.Counting.{count, total};
+ghost use Rattle.cores.specs.Counting.{count, total};
 ghost use Rattle.view.specs.Answers.{links-answer};
 use crate::Refusal;
 use crate::View;

@@ -1,7 +1,7 @@
 -- Lists that are sound show a lawful site, row by row.
 use mathlib.Core.Path.{_≡_, refl, sym, ap, _∙_}
 use mathlib.Core.Bool.{Bool, true, false, not, _&&_, _||_}
-use mathlib.Core.List.{List, []}
+use mathlib.Core.List.{List, [], _∷_}
 use mathlib.Core.Logic.{⊎-elim}
 use Prim.Native.Nat.{ℕ, zero, suc, _+_, _-_, _<_, _≤_}
 use native.Mathlib.Omega.{arith}
@@ -10,13 +10,39 @@ use lib.Dec.{eqb, ltb, leb}
 use lib.ListN.{length, getD}
 use Rattle.std.specs.Holes.{between}
 use Rattle.std.specs.Options.{isSome}
-use Rattle.std.proofs.shelf.Tests.{and-parts, and-from, or-parts, and-cases, not-true, not-false, cases-bool, cases-eq, cases-lt, lt-ltb, le-ltb, ltb-true, ltb-false, leb-true, leb-false, eqb-true, eqb-false, cond-true, cond-false}
-use Rattle.view.specs.Counting.{all, some, lowest, times, holds}
-use Rattle.view.specs.Site.{Site, Lawful}
+use Rattle.std.proofs.shelf.Tests.{and-parts, and-from, or-parts, and-cases, not-true, not-false, cases-bool, cases-eq, cases-lt, lt-ltb, le-ltb, ltb-false, leb-false, eq-eqb, ne-eqb, eqb-false, cond-true, cond-false}
+use Rattle.cores.specs.Counting.{all, some, lowest, times, holds}
+use Rattle.cores.specs.Site.{Site, Lawful}
 use Rattle.view.specs.Rows.{Rising, Faithful}
 use Rattle.view.specs.Listing.{stations, shaped, row, bad-entry, bad-row, lowest-bad-row, sound, site-of}
 use Rattle.view.specs.Tables.{Entry}
-use Rattle.view.specs.Witness.Counting.{same-test, some-at, lowest-at, holds-times, times-holds, place-of, times-at, rises-once, held-once}
+use Rattle.cores.proofs.Counting.{same-test, some-at, lowest-at, holds-times, times-holds, place-of, held-once, times-none, times-cons, bit-true, bit-false}
+
+-- a list that rises step by step rises as a whole
+pub rises-far : (xs : List ℕ) → Rising xs → (i j : ℕ) → i < j → j < length xs → getD xs i 0 < getD xs j 0
+rises-far xs step i zero h l = absurd (omega arith)
+rises-far xs step i (suc j) h l =
+    let more : getD xs j 0 < getD xs (suc j) 0 = rw add-one at (step j (omega arith)) in
+    ⊎-elim
+    (λ (e : i ≡ j). let same : getD xs i 0 ≡ getD xs j 0 = ap (λ k. getD xs k 0) e in omega arith)
+    (λ (d : i ≡ j → ⊥). let far : getD xs i 0 < getD xs j 0 = rises-far xs step i j (omega arith) (omega arith) in omega arith)
+    (cases-eq i j)
+
+-- and so names a number at most once
+pub rises-once : (t : ℕ) (xs : List ℕ) → Rising xs → times t xs ≤ 1
+rises-once t [] rising = omega (arith, times-none t)
+rises-once t (x ∷ xs) rising =
+    let rest : times t xs ≤ 1 = rises-once t xs (λ i h. let next : getD xs i 0 < getD (x ∷ xs) (suc i + 1) 0 = rising (suc i) (omega arith) in let same : suc i + 1 ≡ suc (i + 1) = omega arith in rw same at next) in
+    ⊎-elim
+    (λ (e : t ≡ x).
+    ⊎-elim
+    (λ (h : 0 < times t xs).
+    let at = place-of t xs h in
+    absurd (omega (arith, rises-far (x ∷ xs) rising 0 (suc (at .0)) (omega arith) (omega (arith, at .1)), at .2)))
+    (λ (h : times t xs ≤ 0). omega (arith, times-cons t x xs, bit-true (eqb t x) (eq-eqb t x e)))
+    (cases-lt 0 (times t xs)))
+    (λ (d : t ≡ x → ⊥). omega (arith, times-cons t x xs, bit-false (eqb t x) (ne-eqb t x d)))
+    (cases-eq t x)
 
 -- the row of a station on the site, and of one off it
 pub row-in : (starts ends : List ℕ) (s : ℕ) → s < stations starts → row starts ends s ≡ between (getD starts s 0) (getD starts (s + 1) 0) ends

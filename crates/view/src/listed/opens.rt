@@ -3,7 +3,7 @@
 ghost use mathlib.Core.Path.{_≡_};
 ghost use mathlib.Core.Bool.{true};
 ghost use Rattle.std.specs.Results.{isOk};
-ghost use Rattle.view.specs.Site.{no-stations};
+ghost use Rattle.cores.specs.Site.{no-stations};
 ghost use Rattle.view.specs.Listing.{sound, site-of};
 ghost use Rattle.view.specs.Checked.{checked, opened};
 use super::Listed;

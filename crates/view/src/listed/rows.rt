@@ -4,7 +4,7 @@ ghost use mathlib.Core.Path.{_≡_};
 ghost use Prim.Native.Nat.{_<_};
 ghost use lib.ListN.{length};
 ghost use Rattle.std.specs.Finite.{nth};
-ghost use Rattle.view.specs.Counting.{holds};
+ghost use Rattle.cores.specs.Counting.{holds};
 ghost use Rattle.view.specs.Listing.{stations as station-count, never-falls, shaped, row as row-of, bad-entry, bad-row, lowest-bad-row};
 
 /// How many stations the starts are for.

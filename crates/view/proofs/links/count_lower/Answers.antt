@@ -8,9 +8,9 @@ use Rattle.std.specs.shelf.Lists.{countBy}
 use Rattle.std.proofs.shelf.Lists.{take-all}
 use Rattle.std.proofs.shelf.Maps.{nth-getD}
 use Rattle.std.proofs.shelf.Tests.{lt-ltb, le-ltb}
-use Rattle.view.specs.Counting.{bit, times}
+use Rattle.cores.specs.Counting.{bit, times}
 use Rattle.view.proofs.Rows.{counts-entry, skips-entry}
-use Rattle.view.proofs.Sums.{total-same, count-total, entries-below}
+use Rattle.cores.proofs.Sums.{total-same, count-total, entries-below}
 use Rattle.view.proofs.links.count_lower.Needs as need
 use Rattle.view.proofs.links.count_lower.Needs.{in-Some·then-t-s, in-Some·else-t-s, in-rest}
 

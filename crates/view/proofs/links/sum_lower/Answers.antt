@@ -1,9 +1,9 @@
 use mathlib.Core.Path.{_≡_, sym, ap, _∙_}
 use Prim.Native.Nat.{ℕ}
 use native.Mathlib.Omega.{arith}
-use Rattle.view.specs.Counting.{count, total}
-use Rattle.view.specs.Site.{Site}
-use Rattle.view.proofs.Sums.{total-none, total-more, count-le}
+use Rattle.cores.specs.Counting.{count, total}
+use Rattle.cores.specs.Site.{Site}
+use Rattle.cores.proofs.Sums.{total-none, total-more, count-le}
 use Rattle.view.proofs.links.sum_lower.Needs as need
 
 abbrev lower : Site → ℕ → ℕ

@@ -1,6 +1,6 @@
 use mathlib.Core.Path.{_≡_}
 use Prim.Native.Nat.{_≤_, _*_}
-use Rattle.view.specs.Counting.{count, total}
+use Rattle.cores.specs.Counting.{count, total}
 use Rattle.view.proofs.links.sum_lower.Given as given
 
 abbrev pub Inv-loop-s : given.InvT-loop-s

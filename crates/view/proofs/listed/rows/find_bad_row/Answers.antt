@@ -1,8 +1,8 @@
 use mathlib.Core.Path.{_≡_, sym, ap, _∙_}
 use native.Mathlib.Omega.{arith}
-use Rattle.view.specs.Counting.{lowest}
+use Rattle.cores.specs.Counting.{lowest}
 use Rattle.view.specs.Listing.{bad-row}
-use Rattle.view.specs.Witness.Counting.{lowest-none, lowest-found, lowest-more}
+use Rattle.cores.proofs.Counting.{lowest-none, lowest-found, lowest-more}
 use Rattle.view.proofs.listed.rows.find_bad_row.Needs as need
 
 pub loop-s-holds : need.loop-s-holds

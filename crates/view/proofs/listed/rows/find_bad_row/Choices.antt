@@ -1,6 +1,6 @@
 use mathlib.Core.Path.{_≡_}
 use Rattle.std.specs.declared.option.Option.the-variants.{None}
-use Rattle.view.specs.Counting.{lowest}
+use Rattle.cores.specs.Counting.{lowest}
 use Rattle.view.specs.Listing.{bad-row}
 use Rattle.view.proofs.listed.rows.find_bad_row.Given as given
 

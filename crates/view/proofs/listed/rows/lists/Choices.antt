@@ -1,6 +1,6 @@
 use mathlib.Core.Path.{_≡_}
 use lib.ListN.{take}
-use Rattle.view.specs.Counting.{times}
+use Rattle.cores.specs.Counting.{times}
 use Rattle.view.proofs.listed.rows.lists.Given as given
 
 abbrev pub Inv-loop-t : given.InvT-loop-t

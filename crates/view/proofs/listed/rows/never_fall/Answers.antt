@@ -6,9 +6,9 @@ use lib.Dec.{leb}
 use lib.ListN.{getD}
 use mathlib.Core.List.{List}
 use Rattle.std.proofs.shelf.Tests.{le-leb, lt-leb}
-use Rattle.view.specs.Counting.{all}
+use Rattle.cores.specs.Counting.{all}
 use Rattle.view.specs.Listing.{never-falls}
-use Rattle.view.specs.Witness.Counting.{all-fails, all-none, all-more}
+use Rattle.cores.proofs.Counting.{all-fails, all-none, all-more}
 use Rattle.view.proofs.listed.rows.never_fall.Needs as need
 
 abbrev step : List ℕ → ℕ → Bool

@@ -3,7 +3,7 @@ use mathlib.Core.Bool.{true}
 use Prim.Native.Nat.{_+_}
 use lib.Dec.{leb}
 use lib.ListN.{getD}
-use Rattle.view.specs.Counting.{all}
+use Rattle.cores.specs.Counting.{all}
 use Rattle.view.proofs.listed.rows.never_fall.Given as given
 
 abbrev pub Inv-loop-s : given.InvT-loop-s

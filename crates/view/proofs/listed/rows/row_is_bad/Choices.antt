@@ -1,6 +1,6 @@
 use mathlib.Core.Path.{_≡_}
 use mathlib.Core.Bool.{false}
-use Rattle.view.specs.Counting.{some}
+use Rattle.cores.specs.Counting.{some}
 use Rattle.view.specs.Listing.{bad-entry}
 use Rattle.view.proofs.listed.rows.row_is_bad.Given as given
 

@@ -13,8 +13,7 @@ use Rattle.std.specs.declared.option.Option.{Option}
 use Rattle.std.specs.declared.option.Option.the-variants.{Some, None}
 use Rattle.std.proofs.shelf.Sums.{sumBy-cons, countBy-more-no}
 use Rattle.std.proofs.shelf.Tests.{and-parts, and-from, and-left, and-right, or-parts, or-from, or-left, or-right, cases-eq, cases-lt, cases-bool, eq-eqb, ne-eqb, lt-ltb, ltb-true, cond-true, cond-false, both-ways}
-use Rattle.view.specs.Counting.{bit, all, some, or-else, lowest, times, holds}
-use Rattle.view.specs.Rows.{Rising}
+use Rattle.cores.specs.Counting.{bit, all, some, or-else, lowest, times, holds}
 
 -- two tests with the same answers
 pub same-test : (a b : Bool) → (a ≡ true → b ≡ true) → (b ≡ true → a ≡ true) → a ≡ b
@@ -156,32 +155,6 @@ pub times-at : (t : ℕ) (xs : List ℕ) (k : ℕ) → k < length xs → getD xs
 times-at t [] k h e = absurd (omega arith)
 times-at t (x ∷ xs) zero h e = omega (arith, times-cons t x xs, bit-true (eqb t x) (eq-eqb t x (sym e)))
 times-at t (x ∷ xs) (suc k) h e = let rest : 0 < times t xs = times-at t xs k (omega arith) e in omega (arith, times-cons t x xs)
-
--- a list that rises step by step rises as a whole
-pub rises-far : (xs : List ℕ) → Rising xs → (i j : ℕ) → i < j → j < length xs → getD xs i 0 < getD xs j 0
-rises-far xs step i zero h l = absurd (omega arith)
-rises-far xs step i (suc j) h l =
-    let more : getD xs j 0 < getD xs (suc j) 0 = rw add-one at (step j (omega arith)) in
-    ⊎-elim
-    (λ (e : i ≡ j). let same : getD xs i 0 ≡ getD xs j 0 = ap (λ k. getD xs k 0) e in omega arith)
-    (λ (d : i ≡ j → ⊥). let far : getD xs i 0 < getD xs j 0 = rises-far xs step i j (omega arith) (omega arith) in omega arith)
-    (cases-eq i j)
-
--- and so names a number at most once
-pub rises-once : (t : ℕ) (xs : List ℕ) → Rising xs → times t xs ≤ 1
-rises-once t [] rising = omega (arith, times-none t)
-rises-once t (x ∷ xs) rising =
-    let rest : times t xs ≤ 1 = rises-once t xs (λ i h. let next : getD xs i 0 < getD (x ∷ xs) (suc i + 1) 0 = rising (suc i) (omega arith) in let same : suc i + 1 ≡ suc (i + 1) = omega arith in rw same at next) in
-    ⊎-elim
-    (λ (e : t ≡ x).
-    ⊎-elim
-    (λ (h : 0 < times t xs).
-    let at = place-of t xs h in
-    absurd (omega (arith, rises-far (x ∷ xs) rising 0 (suc (at .0)) (omega arith) (omega (arith, at .1)), at .2)))
-    (λ (h : times t xs ≤ 0). omega (arith, times-cons t x xs, bit-true (eqb t x) (eq-eqb t x e)))
-    (cases-lt 0 (times t xs)))
-    (λ (d : t ≡ x → ⊥). omega (arith, times-cons t x xs, bit-false (eqb t x) (ne-eqb t x d)))
-    (cases-eq t x)
 
 -- what stands at most once, stands as often as it is held
 pub held-once : (t : ℕ) (xs : List ℕ) → times t xs ≤ 1 → times t xs ≡ bit (holds xs t)

@@ -11,8 +11,8 @@ use lib.Dec.{eqb, ltb}
 use Rattle.std.specs.shelf.Lists.{countBy}
 use Rattle.std.proofs.shelf.Sums.{sumBy-cons}
 use Rattle.std.proofs.shelf.Tests.{cases-eq, cases-lt, eq-eqb, ne-eqb, lt-ltb, le-ltb}
-use Rattle.view.specs.Counting.{bit, count, total, times}
-use Rattle.view.specs.Witness.Counting.{bit-true, bit-false, times-none, times-cons}
+use Rattle.cores.specs.Counting.{bit, count, total, times}
+use Rattle.cores.proofs.Counting.{bit-true, bit-false, times-none, times-cons}
 
 pub total-none : (f : ℕ → ℕ) → total 0 f ≡ 0
 unfolding total

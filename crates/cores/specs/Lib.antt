@@ -1,0 +1,3 @@
+pub mod Counting
+pub mod Site
+pub mod Laws

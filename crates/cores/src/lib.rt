@@ -1,0 +1,3 @@
+//! What a site is: the definitions that every promise cites, and their laws.
+
+pub mod laws;
