@@ -8,16 +8,6 @@ use text::Lines;
 use text::Tokens;
 use text::decimal;
 
-#[test]
-fn lines_end_at_a_line_feed() -> Result<(), Fail> {
-    check_eq(Lines::new(b"").next(), None)?;
-    let mut text = Lines::new(b"a\n\nb");
-    check_eq(text.next(), Some(&b"a"[..]))?;
-    check_eq(text.next(), Some(&b""[..]))?;
-    check_eq(text.next(), Some(&b"b"[..])).note("the last line needs no end")?;
-    check_eq(text.next(), None)
-}
-
 /// The next word of a line, with its first byte counted from 1.
 fn next_of<'a>(words: &mut Tokens<'a>) -> Option<(usize, &'a [u8])> {
     let token = words.next()?;
@@ -25,12 +15,14 @@ fn next_of<'a>(words: &mut Tokens<'a>) -> Option<(usize, &'a [u8])> {
 }
 
 #[test]
-fn words_are_parted_by_spaces() -> Result<(), Fail> {
-    check_eq(next_of(&mut Tokens::new(b"  ")), None)?;
-    let mut line = Tokens::new(b" 1  22 ");
-    check_eq(next_of(&mut line), Some((2, &b"1"[..])))?;
-    check_eq(next_of(&mut line), Some((5, &b"22"[..])))?;
-    check_eq(next_of(&mut line), None)
+fn a_text_has_lines_and_a_line_has_words() -> Result<(), Fail> {
+    let mut text = Lines::new(b"\n 1  22 ");
+    check(text.next() == Some(&b""[..]))?;
+    let mut words = Tokens::new(text.next().unwrap_or(b""));
+    check(next_of(&mut words) == Some((2, &b"1"[..])))?;
+    check(next_of(&mut words) == Some((5, &b"22"[..])))?;
+    check(next_of(&mut words).is_none())?;
+    check(text.next().is_none())
 }
 
 #[test]
