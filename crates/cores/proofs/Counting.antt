@@ -1,6 +1,6 @@
 -- Tests of the numbers below n, one number at a time; the places of a number in a list.
 use mathlib.Core.Path.{_≡_, refl, sym, ap, _∙_}
-use mathlib.Core.Bool.{Bool, true, false, cond, _&&_, _||_}
+use mathlib.Core.Bool.{Bool, true, false, cond}
 use mathlib.Core.List.{List, [], _∷_}
 use mathlib.Core.Logic.{⊎-elim}
 use Prim.Native.Nat.{ℕ, zero, suc, _+_, _-_, _<_, _≤_}
@@ -12,7 +12,7 @@ use Rattle.std.specs.Options.{isSome}
 use Rattle.std.specs.declared.option.Option.{Option}
 use Rattle.std.specs.declared.option.Option.the-variants.{Some, None}
 use Rattle.std.proofs.shelf.Sums.{sumBy-cons, countBy-more-no}
-use Rattle.std.proofs.shelf.Tests.{and-parts, and-from, and-left, and-right, or-parts, or-from, or-left, or-right, cases-eq, cases-lt, cases-bool, eq-eqb, ne-eqb, lt-ltb, ltb-true, cond-true, cond-false, both-ways}
+use Rattle.std.proofs.shelf.Tests.{and-parts, and-from, and-left, and-right, or-parts, or-from, or-left, or-right, cases-eq, eq-eqb, ne-eqb, lt-ltb, ltb-true, both-ways}
 use Rattle.cores.specs.Counting.{bit, all, some, or-else, lowest, times, holds}
 
 -- two tests with the same answers

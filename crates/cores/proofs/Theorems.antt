@@ -2,13 +2,12 @@
 use mathlib.Core.Path.{_≡_, refl, ap, _∙_}
 use mathlib.Core.Bool.{Bool, true, false, cond}
 use mathlib.Core.Logic.{⊎-elim}
-use Prim.Native.Nat.{ℕ, zero, suc, _+_, _*_, _<_}
+use Prim.Native.Nat.{ℕ, zero, suc, _*_}
 use native.Mathlib.Omega.{arith}
 use Rattle.std.specs.declared.option.Option.{Option}
 use Rattle.std.specs.declared.option.Option.the-variants.{Some, None}
 use Rattle.std.proofs.shelf.Tests.{cases-eq}
 use Rattle.cores.specs.Counting.{bit, count, total, or-else, lowest}
-use Rattle.cores.specs.Site.{Site, Lawful}
 use Rattle.cores.specs.Laws.{Found, The-lowest-is-the-first-that-passes, Each-link-has-two-ends}
 use Rattle.cores.proofs.Counting.{bit-false}
 use Rattle.cores.proofs.Sums.{total-same, total-add, count-total}

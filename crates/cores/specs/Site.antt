@@ -2,7 +2,7 @@
 use mathlib.Core.Path.{_≡_}
 use mathlib.Core.Bool.{Bool, true, false, _&&_}
 use Prim.Native.Nat.{ℕ, _<_}
-use lib.Dec.{leb, ltb}
+use lib.Dec.{leb}
 use Rattle.cores.specs.Counting.{count, total}
 
 -- A site: how many stations it has, numbered from 0, and which of them are linked.

@@ -3,23 +3,7 @@ use Prim.Native.Nat.{ℕ}
 use Rattle.refusals.specs.declared.TableFault.{TableFault}
 use Rattle.refusals.specs.declared.TableFault.the-variants.{Shape, Row}
 use Rattle.refusals.specs.declared.Refusal.{Refusal}
-use Rattle.refusals.specs.declared.Refusal.the-variants.{
-  CountOutOfRange,
-  OffSite,
-  EqualEnds,
-  AlreadyLinked,
-  NotLinked,
-  RowFull,
-  BufferShort,
-  TextOutOfForm,
-  SizeLineMisplaced,
-  NotASheet,
-  StationAtFault,
-  HomeOrUpWrong,
-  CountsDiffer,
-  TextTooLong,
-  UnlawfulTable,
-}
+use Rattle.refusals.specs.declared.Refusal.the-variants.{CountOutOfRange, OffSite, EqualEnds, AlreadyLinked, NotLinked, RowFull, BufferShort, TextOutOfForm, SizeLineMisplaced, NotASheet, StationAtFault, HomeOrUpWrong, CountsDiffer, TextTooLong, UnlawfulTable}
 
 -- The number of a refusal, 1 to 15.
 abbrev pub number-of : Refusal → ℕ

@@ -4,10 +4,9 @@ use mathlib.Core.Bool.{Bool, true, false, cond}
 use mathlib.Core.List.{List, [], _∷_, _++_}
 use Prim.Native.Nat.{ℕ, _+_}
 use lib.Dec.{eqb}
-use lib.ListN.{length, drop}
-use Rattle.std.specs.shelf.Lists.{All, joined}
+use Rattle.std.specs.shelf.Lists.{All}
 use Rattle.std.proofs.shelf.Tests.{eqb-true, eqb-false}
-use Rattle.text.specs.Texts.{upto, led-by, lines}
+use Rattle.text.specs.Texts.{led-by, lines}
 use Rattle.text.specs.Laws.{Without, Lines-hold-no-end, written, closed, Lines-are-the-text}
 use Rattle.text.proofs.Fronts.{by-cases}
 use Rattle.text.proofs.LineSteps.{line-ends, line-leads, first-line}

@@ -2,14 +2,14 @@
 use mathlib.Core.Path.{_≡_, refl, sym, ap, _∙_}
 use mathlib.Core.Bool.{Bool, true, false, cond, not}
 use mathlib.Core.List.{List, [], _∷_, _++_}
-use Prim.Native.Nat.{ℕ, suc, _+_, _-_, _<_, _≤_}
+use Prim.Native.Nat.{ℕ, suc, _+_, _-_, _<_}
 use native.Mathlib.Omega.{arith}
 use lib.Dec.{eqb}
 use lib.ListN.{length, getD, take, drop}
 use Rattle.std.specs.shelf.Lists.{All, joined, kept-by}
 use Rattle.std.proofs.shelf.Lists.{drop-more, length-drop, getD-drop}
 use Rattle.std.proofs.shelf.Tests.{eqb-true, eqb-false, false≢true}
-use Rattle.text.specs.Texts.{upto, Part, tokens}
+use Rattle.text.specs.Texts.{upto, tokens}
 use Rattle.text.specs.Laws.{Without, Stands, Tokens-stand, Rising, Tokens-rise, Tokens-are-all}
 use Rattle.text.proofs.Fronts.{by-cases, upto-on}
 

@@ -1,5 +1,5 @@
 -- The words of a line, one after the other.
-use mathlib.Core.Path.{_≡_, refl, sym, ap, _∙_}
+use mathlib.Core.Path.{_≡_, refl, ap, _∙_}
 use mathlib.Core.Bool.{Bool, true, false}
 use mathlib.Core.List.{List, [], _∷_}
 use Prim.Native.Nat.{ℕ, suc, _+_, _-_, _<_, _≤_}
@@ -7,7 +7,7 @@ use native.Mathlib.Omega.{arith}
 use lib.Dec.{eqb}
 use lib.ListN.{length, getD, take, drop}
 use Rattle.std.proofs.shelf.Lists.{at-drop-more, at-drop-all, drop-more, drop-drop, length-drop, length-take-le}
-use Rattle.text.specs.Texts.{upto, Part, tokens}
+use Rattle.text.specs.Texts.{upto, tokens}
 use Rattle.text.proofs.Fronts.{by-cases, upto-on, span}
 
 none-left : (p : Bool) (at : ℕ) → tokens p at [] ≡ []

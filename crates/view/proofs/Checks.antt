@@ -1,22 +1,20 @@
 -- What the verdict on two lists says of them.
-use mathlib.Core.Path.{_≡_, refl, sym, ap, _∙_, fun-ext}
+use mathlib.Core.Path.{_≡_, refl, ap, fun-ext}
 use mathlib.Core.Bool.{Bool, true, false, cond, not, _&&_}
 use mathlib.Core.List.{List, [], _∷_}
-use mathlib.Core.Logic.{⊎-elim}
-use Prim.Native.Nat.{ℕ, _≤_}
+use Prim.Native.Nat.{ℕ}
 use native.Mathlib.Omega.{arith}
-use lib.Dec.{ltb}
 use Rattle.std.specs.Options.{isSome}
 use Rattle.std.specs.Results.{isOk}
 use Rattle.std.specs.declared.option.Option.{Option}
 use Rattle.std.specs.declared.option.Option.the-variants.{Some, None}
 use Rattle.std.specs.declared.result.Result.the-variants.{Err}
-use Rattle.std.proofs.shelf.Tests.{and-parts, and-from, both-ways, cases-bool, cond-false, cond-true, le-ltb}
+use Rattle.std.proofs.shelf.Tests.{both-ways}
 use Rattle.refusals.specs.declared.TableFault.the-variants.{Shape}
 use Rattle.refusals.specs.declared.Refusal.the-variants.{UnlawfulTable}
 use Rattle.cores.specs.Counting.{all, lowest, times, holds}
-use Rattle.cores.specs.Site.{Site, no-stations, sized}
-use Rattle.view.specs.Listing.{stations, never-falls, shaped, row, lowest-bad-row, sound, site-of}
+use Rattle.cores.specs.Site.{no-stations, sized}
+use Rattle.view.specs.Listing.{stations, never-falls, shaped, lowest-bad-row, sound, site-of}
 use Rattle.view.specs.Checked.{unless-bad, checked}
 use Rattle.view.specs.Witness.Listings.{row-out}
 

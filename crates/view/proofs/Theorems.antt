@@ -1,25 +1,23 @@
 -- The laws of the definitions.
-use mathlib.Core.Path.{_≡_, refl, sym, ap, _∙_}
+use mathlib.Core.Path.{_≡_, refl, _∙_}
 use mathlib.Core.Bool.{Bool, true, false, cond, not, _&&_, _||_}
 use mathlib.Core.List.{List, [], _∷_}
 use mathlib.Core.Logic.{_⊎_, inl, inr, ⊎-elim}
-use Prim.Native.Nat.{ℕ, zero, suc, _+_, _-_, _*_, _<_, _≤_}
+use Prim.Native.Nat.{ℕ, zero, suc, _+_, _-_, _<_, _≤_}
 use native.Mathlib.Omega.{arith}
 use lib.Dec.{eqb, ltb, leb}
 use lib.ListN.{length, getD}
-use Rattle.std.specs.Options.{isSome}
 use Rattle.std.specs.declared.option.Option.{Option}
 use Rattle.std.specs.declared.option.Option.the-variants.{Some, None}
-use Rattle.std.specs.declared.result.Result.the-variants.{Ok, Err}
-use Rattle.std.proofs.shelf.Tests.{and-parts, and-from, cases-bool, cases-eq, cases-lt, both-ways, eq-eqb, ne-eqb, lt-ltb, ltb-true, leb-true, eqb-true, le-leb, lt-leb, or-from, and-left, and-right, le-ltb, not-from-true, cond-true, cond-false}
+use Rattle.std.specs.declared.result.Result.the-variants.{Err}
+use Rattle.std.proofs.shelf.Tests.{and-parts, and-from, cases-bool, cases-lt, both-ways, eq-eqb, ne-eqb, lt-ltb, ltb-true, leb-true, eqb-true, le-leb, lt-leb, or-from, and-left, and-right, le-ltb, not-from-true}
 use Rattle.refusals.specs.declared.TableFault.the-variants.{Shape as BadShape, Row as BadRow}
 use Rattle.refusals.specs.declared.Refusal.the-variants.{UnlawfulTable}
-use Rattle.cores.specs.Counting.{bit, count, total, all, some, or-else, lowest, times, holds}
-use Rattle.cores.specs.Site.{Site, Lawful, sized, link-count}
-use Rattle.view.specs.Rows.{Faithful}
+use Rattle.cores.specs.Counting.{all, some, times, holds}
+use Rattle.cores.specs.Site.{sized}
 use Rattle.view.specs.Listing.{stations, never-falls, shaped, row, bad-entry, bad-row, lowest-bad-row}
-use Rattle.view.specs.Checked.{unless-bad, checked}
-use Rattle.view.specs.Tables.{Shape, Entry, Good-row, Well-shaped, Fault, Verdict}
+use Rattle.view.specs.Checked.{unless-bad}
+use Rattle.view.specs.Tables.{Shape, Entry, Good-row, Well-shaped, Verdict}
 use Rattle.cores.specs.Laws.{Found}
 use Rattle.cores.proofs.Theorems.{lowest-first}
 use Rattle.view.specs.Laws.{Stations-off-the-site-have-no-neighbours, The-check-judges-in-words}

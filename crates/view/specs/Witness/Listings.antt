@@ -1,6 +1,6 @@
 -- Lists that are sound show a lawful site, row by row.
-use mathlib.Core.Path.{_≡_, refl, sym, ap, _∙_}
-use mathlib.Core.Bool.{Bool, true, false, not, _&&_, _||_}
+use mathlib.Core.Path.{_≡_, refl, ap}
+use mathlib.Core.Bool.{true, false, not, _&&_, _||_}
 use mathlib.Core.List.{List, [], _∷_}
 use mathlib.Core.Logic.{⊎-elim}
 use Prim.Native.Nat.{ℕ, zero, suc, _+_, _-_, _<_, _≤_}
@@ -10,13 +10,12 @@ use lib.Dec.{eqb, ltb, leb}
 use lib.ListN.{length, getD}
 use Rattle.std.specs.Holes.{between}
 use Rattle.std.specs.Options.{isSome}
-use Rattle.std.proofs.shelf.Tests.{and-parts, and-from, or-parts, and-cases, not-true, not-false, cases-bool, cases-eq, cases-lt, lt-ltb, le-ltb, ltb-false, leb-false, eq-eqb, ne-eqb, eqb-false, cond-true, cond-false}
-use Rattle.cores.specs.Counting.{all, some, lowest, times, holds}
-use Rattle.cores.specs.Site.{Site, Lawful}
+use Rattle.std.proofs.shelf.Tests.{and-parts, or-parts, and-cases, not-true, not-false, cases-bool, cases-eq, cases-lt, lt-ltb, le-ltb, ltb-false, leb-false, eq-eqb, ne-eqb, eqb-false, cond-true, cond-false}
+use Rattle.cores.specs.Counting.{times, holds}
 use Rattle.view.specs.Rows.{Rising, Faithful}
 use Rattle.view.specs.Listing.{stations, shaped, row, bad-entry, bad-row, lowest-bad-row, sound, site-of}
 use Rattle.view.specs.Tables.{Entry}
-use Rattle.cores.proofs.Counting.{same-test, some-at, lowest-at, holds-times, times-holds, place-of, held-once, times-none, times-cons, bit-true, bit-false}
+use Rattle.cores.proofs.Counting.{same-test, some-at, lowest-at, holds-times, place-of, held-once, times-none, times-cons, bit-true, bit-false}
 
 -- a list that rises step by step rises as a whole
 pub rises-far : (xs : List ℕ) → Rising xs → (i j : ℕ) → i < j → j < length xs → getD xs i 0 < getD xs j 0

@@ -1,10 +1,10 @@
-use mathlib.Core.Path.{_≡_, sym, ap, _∙_}
+use mathlib.Core.Path.{sym, ap, _∙_}
 use mathlib.Core.Bool.{false}
 use mathlib.Core.List.{_∷_}
 use Prim.Native.Nat.{_+_, _-_}
 use native.Mathlib.Omega.{arith}
 use lib.ListN.{drop, take}
-use Rattle.text.specs.Texts.{Part, tokens}
+use Rattle.text.specs.Texts.{tokens}
 use Rattle.text.specs.Cursors.{tokens-at}
 use Rattle.text.proofs.TokenSteps.{none-at, opened, word-rest, word-past, word-end}
 use Rattle.text.proofs.cut.token_from.Needs as need
