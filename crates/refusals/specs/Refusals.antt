@@ -1,47 +1,37 @@
--- The number and the place of each refusal. Assumes nothing.
+-- The table of refusals. Assumes nothing.
 use Prim.Native.Nat.{ℕ}
 use Rattle.refusals.specs.declared.TableFault.{TableFault}
 use Rattle.refusals.specs.declared.TableFault.the-variants.{Shape, Row}
 use Rattle.refusals.specs.declared.Refusal.{Refusal}
 use Rattle.refusals.specs.declared.Refusal.the-variants.{CountOutOfRange, OffSite, EqualEnds, AlreadyLinked, NotLinked, RowFull, BufferShort, TextOutOfForm, SizeLineMisplaced, NotASheet, StationAtFault, HomeOrUpWrong, CountsDiffer, TextTooLong, UnlawfulTable}
 
--- The number of a refusal, 1 to 15.
-abbrev pub number-of : Refusal → ℕ
-number-of CountOutOfRange = 1
-number-of (OffSite station) = 2
-number-of (EqualEnds station) = 3
-number-of (AlreadyLinked lower) = 4
-number-of (NotLinked lower) = 5
-number-of (RowFull station) = 6
-number-of (BufferShort needed) = 7
-number-of TextOutOfForm = 8
-number-of SizeLineMisplaced = 9
-number-of (NotASheet offset) = 10
-number-of (StationAtFault station) = 11
-number-of (HomeOrUpWrong station) = 12
-number-of CountsDiffer = 13
-number-of TextTooLong = 14
-number-of (UnlawfulTable fault) = 15
+-- What the table says of a refusal: its number, 1 to 15, and the place that it names, 0 if none.
+pub record Told : Type 0 where
+  pub number : ℕ
+  pub place : ℕ
 
--- The place of a fault of a table: 65,535 for its shape or its station count, else the row.
-abbrev pub row-of-fault : TableFault → ℕ
-row-of-fault Shape = 65535
-row-of-fault (Row row) = row
+abbrev pub told-as : ℕ → ℕ → Told
+told-as number place = record { number = number; place = place }
 
--- The place that a refusal names, 0 if it names none.
-abbrev pub place-of : Refusal → ℕ
-place-of CountOutOfRange = 0
-place-of (OffSite station) = station
-place-of (EqualEnds station) = station
-place-of (AlreadyLinked lower) = lower
-place-of (NotLinked lower) = lower
-place-of (RowFull station) = station
-place-of (BufferShort needed) = needed
-place-of TextOutOfForm = 0
-place-of SizeLineMisplaced = 0
-place-of (NotASheet offset) = offset
-place-of (StationAtFault station) = station
-place-of (HomeOrUpWrong station) = station
-place-of CountsDiffer = 0
-place-of TextTooLong = 0
-place-of (UnlawfulTable fault) = row-of-fault fault
+-- The place of a table's fault: 65,535 for its shape or its station count, else the row.
+abbrev pub row-at-fault : TableFault → ℕ
+row-at-fault Shape = 65535
+row-at-fault (Row row) = row
+
+-- The number and the place of each refusal.
+abbrev pub told : Refusal → Told
+told CountOutOfRange = told-as 1 0
+told (OffSite station) = told-as 2 station
+told (EqualEnds station) = told-as 3 station
+told (AlreadyLinked lower) = told-as 4 lower
+told (NotLinked lower) = told-as 5 lower
+told (RowFull station) = told-as 6 station
+told (BufferShort needed) = told-as 7 needed
+told TextOutOfForm = told-as 8 0
+told SizeLineMisplaced = told-as 9 0
+told (NotASheet offset) = told-as 10 offset
+told (StationAtFault station) = told-as 11 station
+told (HomeOrUpWrong station) = told-as 12 station
+told CountsDiffer = told-as 13 0
+told TextTooLong = told-as 14 0
+told (UnlawfulTable fault) = told-as 15 (row-at-fault fault)

@@ -1,7 +1,7 @@
 //! What is turned down: one enum for every call of the planner.
 
 ghost use mathlib.Core.Path.{_≡_};
-ghost use Rattle.refusals.specs.Refusals.{number-of, place-of, row-of-fault};
+ghost use Rattle.refusals.specs.Refusals.{told, row-at-fault};
 
 /// Why a table of links is not lawful.
 #[derive(Clone, Copy, PartialEq, Eq, Debug)]
@@ -50,7 +50,7 @@ pub enum Refusal {
 impl TableFault {
     /// 65,535 for the shape, else the row.
     fn place(&self) -> usize
-        ensures { λ r. ⌜ r ≡ row-of-fault (now (self .entry)) ⌝ }
+        ensures { λ r. ⌜ r ≡ row-at-fault (now (self .entry)) ⌝ }
     {
         match self {
             TableFault::Shape => 65_535,
@@ -62,7 +62,7 @@ impl TableFault {
 impl Refusal {
     /// The number of the refusal in the table of refusals.
     pub fn number(&self) -> u8
-        ensures { λ r. ⌜ r ≡ number-of (now (self .entry)) ⌝ }
+        ensures { λ r. ⌜ r ≡ told (now (self .entry)) .number ⌝ }
     {
         match self {
             Refusal::CountOutOfRange => 1,
@@ -85,7 +85,7 @@ impl Refusal {
 
     /// The place that the refusal names, 0 if it names none.
     pub fn place(&self) -> usize
-        ensures { λ r. ⌜ r ≡ place-of (now (self .entry)) ⌝ }
+        ensures { λ r. ⌜ r ≡ told (now (self .entry)) .place ⌝ }
     {
         match self {
             Refusal::OffSite { station } => *station,

@@ -5,7 +5,7 @@ use lib.Chars.{codes}
 use Rattle.std.specs.Written.{decimal}
 use Rattle.std.specs.shelf.Lists.{joined}
 use Rattle.refusals.specs.declared.Refusal.{Refusal}
-use Rattle.refusals.specs.Refusals.{number-of, place-of}
+use Rattle.refusals.specs.Refusals.{told}
 
 -- `table of N stations, E ends`
 abbrev pub heading : ℕ → ℕ → List ℕ
@@ -25,4 +25,4 @@ lawful-line stations links = codes "lawful: " ++ (decimal stations ++ (codes " s
 
 -- `refused R place P`
 abbrev pub refusal-line : Refusal → List ℕ
-refusal-line e = codes "refused " ++ (decimal (number-of e) ++ (codes " place " ++ decimal (place-of e)))
+refusal-line e = codes "refused " ++ (decimal (told e .number) ++ (codes " place " ++ decimal (told e .place)))
