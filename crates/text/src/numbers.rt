@@ -3,6 +3,9 @@
 ghost use mathlib.Core.Path.{_≡_};
 ghost use Rattle.text.specs.Texts.{value-of, decimal-of};
 
+/// The greatest number that is read.
+const LARGEST: u32 = 65_535;
+
 /// The value of one to `most` digits, if it fits 16 bits. Leading zeros are allowed.
 pub fn decimal(bytes: &[u8], most: usize) -> Option<u16>
     ensures { λ r. ⌜ r ≡ decimal-of most (now (bytes .entry)) ⌝ }
@@ -24,7 +27,7 @@ fn value(bytes: &[u8]) -> Option<u16>
         }
         sum = sum * 10 + (*b - b'0') as u32;
         // A value only grows, so no further digit brings it back.
-        if sum > 65535 {
+        if sum > LARGEST {
             return None;
         }
     }

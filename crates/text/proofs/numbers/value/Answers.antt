@@ -16,8 +16,8 @@ returns-then-not-is-ascii-digit c =
     let d : asciiDigit (getD w i 0) ≡ false = search needs in
     not-digits w (sym (c .loop-b .inv .1) ∙ digits-more w i false (c .loop-b-test .taken) d)
 
-pub returns-then-sum-gt65535 : need.returns-then-sum-gt65535
-returns-then-sum-gt65535 c =
+pub returns-then-sum-gt-LARGEST : need.returns-then-sum-gt-LARGEST
+returns-then-sum-gt-LARGEST c =
     let w = c .args .bytes .now in
     let i = c .loop-b .b-index in
     let v = c .loop-b .sum * 10 + (getD w i 0 - 48) in
