@@ -1,4 +1,5 @@
 //! What is turned down: one enum for every call of the planner.
+#![tactic(auto)]
 
 ghost use Rattle.std.specs.Prelude.{◌≡◌};
 ghost use Rattle.refusals.specs.Refusals.{told, row_at_fault};

@@ -1,4 +1,5 @@
 //! Lines, words and decimal numbers of a text of bytes.
+#![tactic(auto)]
 
 mod cut;
 pub mod laws;

@@ -1,4 +1,5 @@
 //! The lines that tell what was read and found.
+#![tactic(auto)]
 
 mod lines;
 

@@ -1,4 +1,5 @@
 //! Views of a site: stations and links behind three questions.
+#![tactic(auto)]
 
 ghost use Rattle.std.specs.Prelude.{◌≡◌, ℕ, List, length};
 ghost use Rattle.std.specs.List.{slice_get};

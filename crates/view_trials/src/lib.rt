@@ -1,4 +1,5 @@
 //! Tests of refusals and views, on values that were worked out by hand.
+#![tactic(auto)]
 
 #[cfg(test)]
 mod listed;

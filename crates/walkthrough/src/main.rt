@@ -1,4 +1,5 @@
 //! Reads a table of neighbours from standard input, judges it, and tells what it finds line by line.
+#![tactic(auto)]
 
 use anyhow::anyhow;
 use std::io::Read;

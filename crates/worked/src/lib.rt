@@ -1,4 +1,5 @@
 //! Worked sites: what the definitions give for them, each on a contract of its own.
+#![tactic(auto)]
 
 ghost use Rattle.worked.specs.Sites.{OneStation, EightStations, TwoCliquesAndABridge, OneLinkMore, OneLinkLess};
 

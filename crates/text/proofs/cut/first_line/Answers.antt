@@ -13,8 +13,8 @@ returns c =
     let u = c.until-end.ensures in
     let over : (drop next w ≡ drop (r + 1) w) × (0 < next) × (r ≤ next) =
     elim c.if-end-text.branch [
-      | then-end-text v ↦ (ap (λ n. drop n w) v.next_is, omega (arith, v.next_is), omega (arith, v.next_is))
-      | else-end-text v ↦ (ap (λ n. drop n w) v.next_is ∙ past_end w r v.if-end-text.false, omega (arith, v.next_is, v.if-end-text.false), omega (arith, v.next_is))
+      | then-end-text v ↦ (ap (λ n. drop n w) v.next-is, omega (arith, v.next-is), omega (arith, v.next-is))
+      | else-end-text v ↦ (ap (λ n. drop n w) v.next-is ∙ past_end w r v.if-end-text.false, omega (arith, v.next-is, v.if-end-text.false), omega (arith, v.next-is))
     ] in
     record {
       cut = line_cut w r next c.requires u.within u.front over.0;

@@ -5,14 +5,14 @@ use Rattle.text.proofs.TokenSteps.{none_at, opened, word_rest, word_past, word_e
 use Rattle.text.proofs.cut.token_from.Goals as goal
 
 pub returns-then-start-line : goal.returns-then-start-line
-returns-then-start-line c = sym c.skip-spaces-start.ensures.rest ∙ none_at _ _ _ c.if-start-line.true
+returns-then-start-line c = sym c.skip_spaces-start.ensures.rest ∙ none_at _ _ _ c.if-start-line.true
 
 pub returns : goal.returns
 returns c =
     let w = c.args.line.now in
-    let s = c.skip-spaces-start.result in
+    let s = c.skip_spaces-start.result in
     let r = c.until-end.result in
-    let k = c.skip-spaces-start.ensures in
+    let k = c.skip_spaces-start.ensures in
     let u = c.until-end.ensures in
     let begins = k.stops c.if-start-line.false in
     let longer = word_past w s r u.past u.within c.if-start-line.false begins u.front in

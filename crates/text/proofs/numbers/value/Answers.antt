@@ -4,8 +4,8 @@ use Rattle.text.specs.Texts.{read_on}
 use Rattle.text.proofs.DigitSteps.{digits_more, digits_all, reads_more, reads_all, reads_up, not_digits, not_small, gives}
 use Rattle.text.proofs.numbers.value.Goals as goal
 
-pub returns-then-not-is-ascii-digit : goal.returns-then-not-is-ascii-digit
-returns-then-not-is-ascii-digit c =
+pub returns-then-not-is_ascii_digit : goal.returns-then-not-is_ascii_digit
+returns-then-not-is_ascii_digit c =
     let w = c.args.bytes.now in
     let i = c.loop-b.b-index in
     let d : is_ascii_digit (get_or w i 0) ≡ false = search rules in

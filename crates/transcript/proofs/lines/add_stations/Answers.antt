@@ -16,9 +16,9 @@ loop-t-init c = sym (append-nil (string_bytes c.args.line.now))
 
 pub loop-t-preserved : goal.loop-t-preserved
 loop-t-preserved c =
-    more (string_bytes c.loop-t.line) (string_bytes c.push-str.new.self) (string_bytes c.args.line.now) c.as-str.result.now
-    c.args.stations.now c.loop-t.t-index c.in-ok-push-str.ensures.bytes
-    (c.as-str.ensures.value ∙ c.in-ok-word.ensures.ok) c.loop-t-test.true c.loop-t.invariant
+    more (string_bytes c.loop-t.line) (string_bytes c.push_str.new.self) (string_bytes c.args.line.now) c.as_str.result.now
+    c.args.stations.now c.loop-t.t-index c.in_ok-push_str.ensures.bytes
+    (c.as_str.ensures.value ∙ c.in_ok-word.ensures.ok) c.loop-t-test.true c.loop-t.invariant
 
 pub returns : goal.returns
 returns c = c.loop-t.invariant ∙ ap (λ ts. string_bytes c.args.line.now ++ listed ts) (take_all c.loop-t.t-index c.args.stations.now c.loop-t-test.false)

@@ -6,7 +6,7 @@ use Rattle.cores.specs.Counting.{bit, times}
 use Rattle.view.proofs.Rows.{counts_entry, skips_entry}
 use Rattle.cores.proofs.Sums.{total_same, count_total, entries_below}
 use Rattle.view.proofs.links.count_lower.Goals as goal
-use Rattle.view.proofs.links.count_lower.Goals.{in-Some+then-t-s, in-Some+else-t-s, in-default}
+use Rattle.view.proofs.links.count_lower.Goals.{in-Some+then-t-s, in-Some+else-t-s, in_default}
 
 pub loop-place-preserved : goal.loop-place-preserved
 loop-place-preserved g c =
@@ -17,9 +17,9 @@ loop-place-preserved g c =
     elim c.match-neighbour.branch [
       | in-Some+then-t-s w ↦ (omega (arith, w.lower-is, inv, counts_entry below row i w.in-Some.t w.in-Some.ensures (lt-ltb _ _ w.if-t-s.true)), omega (arith, w.lower-is))
       | in-Some+else-t-s w ↦ (omega (arith, w.lower-is, inv, skips_entry below row i w.in-Some.t w.in-Some.ensures (le-ltb _ _ w.if-t-s.false)), omega (arith, w.lower-is))
-      | in-default w ↦
+      | in_default w ↦
           let h : i < length row = omega arith in
-          absurd (w.in-default.not-Some (get_or row i 0) (c.neighbour.ensures ∙ slice_get-get_or row i 0 h))
+          absurd (w.in_default.not-Some (get_or row i 0) (c.neighbour.ensures ∙ slice_get-get_or row i 0 h))
     ]
 
 -- the row names each neighbour once, so its entries below s are the links to lower stations

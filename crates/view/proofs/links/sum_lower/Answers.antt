@@ -12,13 +12,13 @@ pub loop-s-init : goal.loop-s-init
 loop-s-init g c = (sym (total_none (lower (g.V.View.site c.args.view.now))), omega arith)
 
 -- a station has fewer than 512 neighbours below it
-pub overflow-add-links : goal.overflow-add-links
-overflow-add-links g c = omega (arith, c.loop-s.invariant.1, count_le c.loop-s.s ((g.V.View.site c.args.view.now).linked c.loop-s.s))
+pub overflow_add-links : goal.overflow_add-links
+overflow_add-links g c = omega (arith, c.loop-s.invariant.1, count_le c.loop-s.s ((g.V.View.site c.args.view.now).linked c.loop-s.s))
 
 pub loop-s-preserved : goal.loop-s-preserved
 loop-s-preserved g c =
     let site = g.V.View.site c.args.view.now in (
-      omega (arith, c.loop-s.invariant.0, c.count-lower-links.ensures, total_more c.loop-s.s (lower site)),
+      omega (arith, c.loop-s.invariant.0, c.count_lower-links.ensures, total_more c.loop-s.s (lower site)),
       omega (arith, c.loop-s.invariant.1, count_le c.loop-s.s (site.linked c.loop-s.s)),
     )
 

@@ -4,5 +4,5 @@ use Rattle.view.proofs.listed.opens.passes.Goals as goal
 
 pub returns : goal.returns
 returns c =
-    let verdict = c.is-ok.ensures.value ∙ ap is_ok c.check.ensures in
+    let verdict = c.is_ok.ensures.value ∙ ap is_ok c.check.ensures in
     record { verdict = verdict; sound = λ h. passed_sound c.args.starts.now c.args.ends.now (sym verdict ∙ h) }

@@ -2,10 +2,10 @@ use Rattle.std.proofs.Common.{rules}
 use Rattle.view.specs.Listing.{shaped}
 use Rattle.view.proofs.listed.rows.is_shaped.Goals as goal
 
-pub returns-then-never-fall : goal.returns-then-never-fall
+pub returns-then-never_fall : goal.returns-then-never_fall
 unfolding shaped
-returns-then-never-fall c = search rules
+returns-then-never_fall c = search rules
 
-pub returns-else-never-fall : goal.returns-else-never-fall
+pub returns-else-never_fall : goal.returns-else-never_fall
 unfolding shaped
-returns-else-never-fall c = search rules
+returns-else-never_fall c = search rules

@@ -7,16 +7,16 @@ use Rattle.view.proofs.listed.rows.row_is_bad.Goals as goal
 pub loop-place-init : goal.loop-place-init
 loop-place-init c = some_none (bad_entry c.args.starts.now c.args.ends.now c.args.s)
 
-pub returns-then-entry-is-bad : goal.returns-then-entry-is-bad
+pub returns-then-entry_is_bad : goal.returns-then-entry_is_bad
 unfolding bad_row
-returns-then-entry-is-bad c =
+returns-then-entry_is_bad c =
     sym (some_found _ (bad_entry c.args.starts.now c.args.ends.now c.args.s) c.loop-place.place
-    (omega (arith, ap length c.row-place-end.ensures)) (sym c.entry-is-bad.ensures ∙ c.if-entry-is-bad.true))
+    (omega (arith, ap length c.row-place-end.ensures)) (sym c.entry_is_bad.ensures ∙ c.if-entry_is_bad.true))
 
 pub loop-place-preserved : goal.loop-place-preserved
 loop-place-preserved c =
     some_more c.loop-place.place (bad_entry c.args.starts.now c.args.ends.now c.args.s) c.loop-place.invariant
-    (sym c.entry-is-bad.ensures ∙ c.if-entry-is-bad.false)
+    (sym c.entry_is_bad.ensures ∙ c.if-entry_is_bad.false)
 
 pub returns : goal.returns
 unfolding bad_row
