@@ -1,5 +1,5 @@
 -- One link more and one link less, as sites.
-use Rattle.std.proofs.Common.{◌≡◌, ℕ, false, not, sym, refl, inl, inr, arith}
+use Rattle.std.proofs.Common.{◌≡◌, ℕ, false, sym, refl, inl, inr, arith}
 use Rattle.std.proofs.lemmas.Bool.{cases_eq, both_ways}
 use Rattle.cores.specs.Site.{Site, Lawful}
 use Rattle.cores.specs.Numbers.{number}

@@ -2,7 +2,7 @@
 use Rattle.std.proofs.Common.{◌≡◌, ℕ, zero, suc, ◌<◌, ◌≤◌, Bool, true, false, not, ◌&&◌, ◌||◌, ltb, leb, sym, refl, ap, ◌∙◌, subst, inl, inr, arith}
 use mathlib.Core.Path.{fun_ext}
 use Rattle.std.proofs.lemmas.Bool.{false≢true, or_cases, leb-true, le-leb}
-use Rattle.cores.specs.Counting.{count, greatest}
+use Rattle.cores.specs.Counting.{count}
 use Rattle.cores.specs.Site.{Site}
 use Rattle.cores.specs.Numbers.{Group, hears, steady, including, some_group, in_core, number, IsSteady, TheSearchTriesEveryGroup, TheCoreSetIsTheLargestSteadyGroup, CoreSetsAreNested, TheNumberIsTheGreatest, NumbersAreBelowTheSize}
 use Rattle.cores.proofs.Searches.{by_cases, same_test, all_at, all_from, greatest_last, greatest_none}

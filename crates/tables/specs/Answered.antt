@@ -1,4 +1,4 @@
-use Rattle.std.specs.Prelude.{◌≡◌, ℕ, ◌+◌, List, [], ◌∷◌, ◌++◌, length, Ok, Err, vec_items, vec_len, Result}
+use Rattle.std.specs.Prelude.{◌≡◌, ℕ, List, [], ◌∷◌, ◌++◌, length, Ok, Err, vec_items, vec_len, Result}
 use Rattle.std.specs.List.{flat_map}
 use Rattle.tables.specs.declared.fault.Unread.{Unread}
 use Rattle.tables.specs.declared.fault.Unread.TheVariants.{TooLong, NotAStation, NoMemory}
