@@ -1,13 +1,13 @@
 -- The laws of lines.
 use Rattle.std.proofs.Common.{◌≡◌, ℕ, Bool, true, false, cond, eqb, List, [], ◌∷◌, ◌++◌, sym, refl, ap, ◌∙◌}
-use Rattle.std.specs.List.{AllByRecursion as All}
+use Rattle.std.specs.List.{AllByRecursion}
 use Rattle.std.proofs.lemmas.Bool.{eqb-true, eqb-false}
 use Rattle.text.specs.Texts.{led_by, lines}
 use Rattle.text.specs.Laws.{Without, LinesHoldNoEnd, written, closed, LinesAreTheText}
 use Rattle.text.proofs.Fronts.{by_cases}
 use Rattle.text.proofs.LineSteps.{line_ends, line_leads, first_line_lem}
 
-led_clear : (b : ℕ) (ls : List (List ℕ)) → (b ≡ 10 → ⊥) → All (Without 10) ls → All (Without 10) (led_by b ls)
+led_clear : (b : ℕ) (ls : List (List ℕ)) → (b ≡ 10 → ⊥) → AllByRecursion (Without 10) ls → AllByRecursion (Without 10) (led_by b ls)
 led_clear b [] n h = ((n, tt), tt)
 led_clear b (l ∷ ls) n h = ((n, h.0), h.1)
 

@@ -1,6 +1,6 @@
 -- The laws of words.
 use Rattle.std.proofs.Common.{◌≡◌, ℕ, suc, ◌+◌, ◌-◌, ◌<◌, Bool, true, false, cond, not, eqb, List, [], ◌∷◌, ◌++◌, length, get_or, take, drop, filter, sym, refl, ap, ◌∙◌, arith}
-use Rattle.std.specs.List.{flat_map, AllByRecursion as All}
+use Rattle.std.specs.List.{flat_map, AllByRecursion}
 use Rattle.std.proofs.lemmas.List.{drop_more, length-drop, get_or-drop}
 use Rattle.std.proofs.lemmas.Bool.{eqb-true, eqb-false, false≢true}
 use Rattle.text.specs.Texts.{upto, tokens}
@@ -43,7 +43,7 @@ module _ (line : List ℕ) (i b : ℕ) (bs : List ℕ) (d : drop i line ≡ b �
             ∙ upto_after 32 (b ∷ bs) (omega arith);
       }
 
-all_stand : (line bs : List ℕ) (i : ℕ) (p : Bool) → drop i line ≡ bs → (p ≡ true → 0 < i → get_or line (i - 1) 0 ≡ 32) → All (Stands line) (tokens p (i + 1) bs)
+all_stand : (line bs : List ℕ) (i : ℕ) (p : Bool) → drop i line ≡ bs → (p ≡ true → 0 < i → get_or line (i - 1) 0 ≡ 32) → AllByRecursion (Stands line) (tokens p (i + 1) bs)
 unfolding tokens
 all_stand line [] i p d start = tt
 all_stand line (b ∷ bs) i p d start =

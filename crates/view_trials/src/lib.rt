@@ -4,4 +4,4 @@
 #[cfg(test)]
 mod listed;
 #[cfg(test)]
-mod refusals;
+mod refusal_table;
