@@ -45,7 +45,7 @@ pub count_more : (n : ℕ) (p : Group) → count (n + 1) p ≡ count n p + bit (
 unfolding count
 count_more n p = rw add-one
 
-pub count_le : (n : ℕ) (p : Group) → count n p ≤ n
+pub count_le : (n : ℕ) (p : ℕ → Bool) → count n p ≤ n
 unfolding count
 count_le zero p = omega arith
 count_le (suc n) p = omega (arith, count_le n p, bit_le (p n))
