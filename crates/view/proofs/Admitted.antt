@@ -9,7 +9,7 @@ pub admitted : (n : ℕ) (u : Unit {0}) → Ok u ≡ counted n → sized n ≡ t
 admitted n u h =
     ⊎_elim
     (λ y. y)
-    (λ (z : sized n ≡ false). let TurnedDown : counted n ≡ Err CountOutOfRange = cond-false (sized n) _ _ z in let z : ◌≡◌ {A = ℕ} 0 1 = cc in absurd (omega arith))
+    (λ (z : sized n ≡ false). let turned_down : counted n ≡ Err CountOutOfRange = cond-false (sized n) _ _ z in let z : ◌≡◌ {A = ℕ} 0 1 = cc in absurd (omega arith))
     (cases_Bool (sized n))
 
 pub sized_within : (n : ℕ) → sized n ≡ true → (1 ≤ n) × (n ≤ 512)
