@@ -4,9 +4,10 @@
 usage: python3 tools/respell.py [--check] [FOLDER]     FOLDER: a repository with crates/, else the one that this file is in
 
 A name is turned if it has a dash and a file of specs/ or proofs/ declares it (also inside another proof, as a field or a constructor, or by
-a `let`), or a file of lemmas uses it for a value of its own. So Core-numbers becomes CoreNumbers, and in-core becomes in_core. Names of the kit stay as they are, and so do names that the check makes
-(goals, loops, branches), unless a name of some crate is spelled alike: read the diff of Answers.antt for those. Turned are .antt files, .rt files
-(whose ghost text alone has such names), must-fail edits, and names in backquotes in docs/. Comments and strings stay. With --check nothing is written, and the names are listed.
+a `let`), or a file of lemmas uses it for a value of its own. So Core-numbers becomes CoreNumbers, and in-core becomes in_core. Names of the
+kit stay as they are, and so do names that the check makes (goals, loops, branches), unless a name of some crate is spelled alike: read the
+diff of Answers.antt for those. Turned are .antt files, .rt files (whose ghost text alone has such names), must-fail edits, and names in
+backquotes in docs/. Comments and strings stay. With --check nothing is written, and the names are listed.
 Names that would fall together with another name in use are printed, and nothing is written.
 """
 

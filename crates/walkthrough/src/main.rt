@@ -1,6 +1,12 @@
 //! Reads a table of neighbours from standard input, judges it, and tells what it finds line by line.
 #![tactic(auto)]
 
+ghost use Rattle.std.specs.Prelude.{◌≡◌, IfOk};
+ghost use Rattle.std.specs.Process.{exit_status};
+ghost use Rattle.tables.specs.Answered.{listing_of};
+ghost use Rattle.view.specs.Extents.{measured};
+ghost use Rattle.walkthrough.specs.Ending.{status_of};
+
 use std::io::Read;
 use std::process::ExitCode;
 use tables::{Table, Unread};
@@ -8,7 +14,10 @@ use transcript::{heading, lawful_line, refusal_line, row_line};
 use view::listed::{measure, row, stations};
 
 /// Tells the table as it was read, and then the verdict on it.
-fn tell(rt: &HostRuntime, table: &Table) -> anyhow::Result<ExitCode> {
+fn tell(rt: &HostRuntime, table: &Table) -> anyhow::Result<ExitCode>
+    ensures { let told = listing_of table.now in
+        IfOk result (λ code. exit_status code ≡ status_of (measured told.starts told.ends)) }
+{
     let heap = rt.alloc();
     let starts = table.starts();
     let ends = table.ends();
@@ -29,7 +38,9 @@ fn tell(rt: &HostRuntime, table: &Table) -> anyhow::Result<ExitCode> {
 }
 
 /// Tells why there is no table.
-fn tell_unread(rt: &HostRuntime, unread: Unread) -> anyhow::Result<ExitCode> {
+fn tell_unread(rt: &HostRuntime, unread: Unread) -> anyhow::Result<ExitCode>
+    ensures { IfOk result (λ code. exit_status code ≡ 1) }
+{
     rt.println(unread)?;
     Ok(ExitCode::FAILURE)
 }
