@@ -1,5 +1,5 @@
 -- The table of refusals. Assumes nothing.
-use Rattle.std.specs.Prelude.{ℕ}
+use Rattle.std.specs.Prelude.{ℕ, List, ◌++◌, codes, decimal}
 use Rattle.refusals.specs.declared.TableFault.{TableFault}
 use Rattle.refusals.specs.declared.TableFault.TheVariants.{Shape, Row}
 use Rattle.refusals.specs.declared.Refusal.{Refusal}
@@ -35,3 +35,7 @@ told (HomeOrUpWrong station) = told_as 12 station
 told CountsDiffer = told_as 13 0
 told TextTooLong = told_as 14 0
 told (UnlawfulTable fault) = told_as 15 (row_at_fault fault)
+
+-- `refused R place P`
+abbrev pub refusal_line : Refusal → List ℕ
+refusal_line e = codes "refused " ++ (decimal (told e).number ++ (codes " place " ++ decimal (told e).place))

@@ -1,8 +1,11 @@
 //! What is turned down: one enum for every call of the planner.
 #![tactic(auto)]
 
-ghost use Rattle.std.specs.Prelude.{◌≡◌};
-ghost use Rattle.refusals.specs.Refusals.{told, row_at_fault};
+ghost use Rattle.std.specs.Prelude.{◌≡◌, Some};
+ghost use Rattle.refusals.specs.declared.Refusal.TheVariants.{UnlawfulTable};
+ghost use Rattle.refusals.specs.Refusals.{told, row_at_fault, refusal_line};
+
+use std::fmt;
 
 /// Why a table of links is not lawful.
 #[derive(Clone, Copy, PartialEq, Eq, Debug)]
@@ -89,15 +92,14 @@ impl Refusal {
         ensures { result ≡ (told self.now).place }
     {
         match self {
-            Refusal::OffSite { station } => *station,
-            Refusal::EqualEnds { station } => *station,
-            Refusal::AlreadyLinked { lower } => *lower,
-            Refusal::NotLinked { lower } => *lower,
-            Refusal::RowFull { station } => *station,
+            Refusal::OffSite { station }
+            | Refusal::EqualEnds { station }
+            | Refusal::RowFull { station }
+            | Refusal::StationAtFault { station }
+            | Refusal::HomeOrUpWrong { station } => *station,
+            Refusal::AlreadyLinked { lower } | Refusal::NotLinked { lower } => *lower,
             Refusal::BufferShort { needed } => *needed,
             Refusal::NotASheet { offset } => *offset,
-            Refusal::StationAtFault { station } => *station,
-            Refusal::HomeOrUpWrong { station } => *station,
             Refusal::UnlawfulTable(fault) => fault.place(),
             Refusal::CountOutOfRange
             | Refusal::TextOutOfForm
@@ -105,5 +107,24 @@ impl Refusal {
             | Refusal::CountsDiffer
             | Refusal::TextTooLong => 0,
         }
+    }
+}
+
+impl From<TableFault> for Refusal {
+    ghost from_gives = { λ why r. r ≡ UnlawfulTable why };
+
+    fn from(why: TableFault) -> Refusal {
+        Refusal::UnlawfulTable(why)
+    }
+}
+
+/// `refused R place P`.
+impl fmt::Display for Refusal {
+    ghost output = { λ e. Some (refusal_line e) };
+
+    fn fmt<W: fmt::Write>(&self, f: &mut fmt::Formatter<W>) -> fmt::Result {
+        let number = self.number();
+        let place = self.place();
+        write!(f, "refused {number} place {place}")
     }
 }
