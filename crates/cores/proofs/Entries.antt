@@ -1,5 +1,6 @@
 -- Where a number stands in a list, and how often.
 use Rattle.std.proofs.Common.{◌≡◌, ℕ, zero, suc, ◌+◌, ◌<◌, ◌≤◌, true, false, cond, ◌||◌, eqb, List, [], ◌∷◌, ◌++◌, length, get_or, take, drop, sym, refl, ap, ◌∙◌, inl, inr, arith, take-append-drop, length-take}
+use Rattle.std.specs.List.{list_any}
 use Rattle.std.proofs.lemmas.List.Sums.{sum_by-cons, count_by_more_no}
 use Rattle.std.proofs.lemmas.List.{get_or-take}
 use Rattle.std.proofs.lemmas.Bool.{cases_eq, ne_eqb, lt-ltb, ltb-true}
@@ -66,6 +67,11 @@ holds_none t = let none = times_none t in grind arith
 pub holds_cons : (t x : ℕ) (xs : List ℕ) → holds (x ∷ xs) t ≡ (eqb t x || holds xs t)
 unfolding holds bit
 holds_cons t x xs = let first = times_cons t x xs in grind arith
+
+-- the test of each entry in turn
+pub holds_listed : (xs : List ℕ) (t : ℕ) → holds xs t ≡ list_any (λ x. eqb x t) xs
+holds_listed [] t = holds_none t
+holds_listed (x ∷ xs) t = let first = holds_cons t x xs in let rest = holds_listed xs t in grind arith
 
 pub holds_first : (t x : ℕ) (xs : List ℕ) → t ≡ x → holds (x ∷ xs) t ≡ true
 holds_first t x xs d = let one = holds_cons t x xs in grind arith

@@ -1,5 +1,9 @@
 -- Searches of the numbers below n, one number at a time.
-use Rattle.std.proofs.Common.{◌≡◌, ℕ, zero, suc, ◌+◌, ◌<◌, ◌≤◌, Bool, true, false, cond, ◌&&◌, eqb, is_some, Some, None, Option, sym, refl, inl, inr, add-one, arith}
+use Rattle.std.proofs.Common.{◌≡◌, ℕ, zero, suc, ◌+◌, ◌<◌, ◌≤◌, Bool, true, false, cond, ◌&&◌, eqb, List, [], ◌∷◌, ◌++◌, is_some, Some, None, Option, sym, refl, ap, ◌∙◌, inl, inr, add-one, arith}
+use Rattle.std.specs.List.{range_with_len, list_any, find}
+use Rattle.std.proofs.lemmas.List.{map-id}
+use Rattle.std.proofs.lemmas.List.FromFn.{map-range_with_len_more}
+use Rattle.std.proofs.lemmas.List.Folds.{list_any-append, find-append}
 use Rattle.std.proofs.lemmas.Bool.{false≢true, both_ways, or_cases, cases_lt}
 use Rattle.cores.specs.Counting.{all, some, or_else, lowest, greatest, AllAndSomeLookAtEach, TheGreatestIsTheLastThatPasses}
 use Rattle.cores.specs.Laws.{Found, TheLowestIsTheFirstThatPasses}
@@ -14,6 +18,30 @@ pub same_test : (a b : Bool) → (a ≡ true → b ≡ true) → (b ≡ true →
 same_test true b f g = sym (f refl)
 same_test false true f g = g refl
 same_test false false f g = refl
+
+-- the numbers below n as a list, and each search as that of the list
+pub range_more : (n : ℕ) → range_with_len 0 (suc n) ≡ range_with_len 0 n ++ n ∷ []
+range_more n =
+    let same = λ (xs : List ℕ). map-id xs in
+    let one : range_with_len 0 (suc n) ≡ range_with_len 0 (n + 1) = ap (range_with_len 0) (sym (add-one n)) in
+    let last = map-range_with_len_more (λ (t : ℕ). t) 0 n n (omega arith) in
+    one ∙ sym (same (range_with_len 0 (n + 1))) ∙ last ∙ ap (λ xs. xs ++ n ∷ []) (same (range_with_len 0 n))
+
+pub some_listed : (n : ℕ) (p : ℕ → Bool) → some n p ≡ list_any p (range_with_len 0 n)
+unfolding some
+some_listed zero p = refl
+some_listed (suc n) p =
+    let below = some_listed n p in
+    let last = ap (list_any p) (range_more n) ∙ list_any-append p (range_with_len 0 n) (n ∷ []) in
+    grind arith
+
+pub lowest_listed : (n : ℕ) (p : ℕ → Bool) → lowest n p ≡ find p (range_with_len 0 n)
+unfolding lowest
+lowest_listed zero p = refl
+lowest_listed (suc n) p =
+    let below = lowest_listed n p in
+    let last = ap (find p) (range_more n) ∙ find-append p (range_with_len 0 n) (n ∷ []) in
+    grind arith
 
 -- all
 pub all_at : (n : ℕ) (p : ℕ → Bool) (k : ℕ) → all n p ≡ true → k < n → p k ≡ true

@@ -5,9 +5,10 @@ ghost use Rattle.std.specs.Prelude.{◌≡◌, Some};
 ghost use Rattle.refusals.specs.declared.Refusal.TheVariants.{UnlawfulTable};
 ghost use Rattle.refusals.specs.Refusals.{told, row_at_fault, refusal_line};
 
+use std::error::Error;
 use std::fmt;
 
-/// Why a table of links is not lawful.
+/// Why a table of links is not lawful. The shape is a fault of its own, where an `Option` of a row would say none.
 #[derive(Clone, Copy, PartialEq, Eq, Debug)]
 pub enum TableFault {
     /// The lists do not fit together, or the station count is outside 1 to 512.
@@ -64,7 +65,7 @@ impl TableFault {
 }
 
 impl Refusal {
-    /// The number of the refusal in the table of refusals.
+    /// The number of the refusal in the table of refusals. The rules give each one, to be told with its place.
     pub fn number(&self) -> u8
         ensures { result ≡ (told self.now).number }
     {
@@ -128,3 +129,5 @@ impl fmt::Display for Refusal {
         write!(f, "refused {number} place {place}")
     }
 }
+
+impl Error for Refusal {}

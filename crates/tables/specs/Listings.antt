@@ -2,12 +2,7 @@ use Rattle.std.specs.Prelude.{ℕ, ◌+◌, cond, List, [], ◌∷◌, length, O
 use Rattle.std.specs.Option.{ok_or}
 use Rattle.std.specs.List.{flat_map}
 use Rattle.text.specs.Texts.{lines, Part, tokens_of, decimal_of}
-
--- A table of neighbours: the ends of the links, station by station, and where those of each station start,
--- with one start more for where they all end.
-pub record Listing : Type 0 where
-  pub starts : List ℕ
-  pub ends : List ℕ
+use Rattle.view.specs.Listing.{Lists}
 
 -- What a text can have wrong: its length, or a word, by its line and byte, both counted from 1.
 pub data Fault : Type 0 where
@@ -40,14 +35,14 @@ counts k [] = []
 counts k (r ∷ rs) = (k + length r) ∷ counts (k + length r) rs
 
 -- The table of rows: they follow one another.
-abbrev pub listing : List (List ℕ) → Listing
+abbrev pub listing : List (List ℕ) → Lists
 listing rs = record { starts = 0 ∷ counts 0 rs; ends = flat_map (λ r. r) rs }
 
 -- The table of rows that were read, or the fault.
-abbrev pub listed : Result (List (List ℕ)) Fault → Result Listing Fault
+abbrev pub listed : Result (List (List ℕ)) Fault → Result Lists Fault
 listed (Ok rs) = Ok (listing rs)
 listed (Err e) = Err e
 
 -- The table that a text of at most a million bytes writes.
-abbrev pub table_of : List ℕ → Result Listing Fault
+abbrev pub table_of : List ℕ → Result Lists Fault
 table_of text = cond (nat_lt 1000000 (length text)) (Err too_long) (listed (rows_of 1 (lines text)))

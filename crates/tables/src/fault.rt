@@ -5,9 +5,10 @@ ghost use Rattle.tables.specs.declared.fault.Unread.TheVariants.{NoMemory};
 ghost use Rattle.tables.specs.Told.{told};
 
 use std::alloc::{AllocError, AllocFailed};
+use std::error::Error;
 use std::fmt;
 
-#[derive(Clone, Copy, PartialEq, Debug)]
+#[derive(Clone, Copy, PartialEq, Eq, Debug)]
 pub enum Unread {
     /// More than a million bytes.
     TooLong,
@@ -24,6 +25,7 @@ impl From<AllocError> for Unread {
     }
 }
 
+// One impl for both errors is no plainer: it wants a trait of its own, and an impl of that for each.
 impl<T: Drop> From<AllocFailed<T>> for Unread {
     ghost from_gives = { λ _ r. r ≡ NoMemory };
 
@@ -45,3 +47,5 @@ impl fmt::Display for Unread {
         }
     }
 }
+
+impl Error for Unread {}

@@ -1,43 +1,48 @@
 //! Reads a table row by row.
 
-ghost use Rattle.std.specs.Prelude.{◌≡◌, ◌+◌, ◌≤◌, length, Ok, vec_len};
-ghost use Rattle.text.specs.Texts.{lines, tokens_of};
+ghost use Rattle.std.specs.Prelude.{◌≡◌, ◌+◌, ◌≤◌, [], ◌∷◌, length, vec_len};
+ghost use Rattle.text.specs.Texts.{lines};
 ghost use Rattle.text.specs.Cursors.{part_of};
-ghost use Rattle.tables.specs.Listings.{station_of, row_of, rows_of, listed, table_of};
-ghost use Rattle.tables.specs.Answered.{listing_of, row_ended, giving, Meant, with_row};
+ghost use Rattle.view.specs.Listing.{lists};
+ghost use Rattle.tables.specs.Listings.{station_of, rows_of, listed, table_of};
+ghost use Rattle.tables.specs.Answered.{listing_of, giving, Meant, with_rows};
 
 use crate::fault::Unread;
 use std::alloc::Global;
 use text::{Lines, Token, Tokens, decimal};
+use view::listed::Listing;
 
 /// The longest text that is read, in bytes.
 const LONGEST: usize = 1_000_000;
 
-/// The ends of the links of all stations, and where those of each station start.
-#[derive(Drop)]
+/// The ends of the links of all stations, and where those of each station start: the two lists of a listed table.
+#[derive(Debug, Drop)]
 pub struct Table {
     starts: Vec<u32>,
     ends: Vec<u16>,
 }
 
 impl Table {
-    pub fn starts(&self) -> &[u32]
-        ensures { result.now ≡ (listing_of self.now).starts }
+    /// The two lists of the table.
+    pub fn listing(&self) -> Listing<'_, '_>
+        ensures { lists result ≡ listing_of self.now }
     {
-        self.starts.as_slice()
+        Listing {
+            starts: self.starts.as_slice(),
+            ends: self.ends.as_slice(),
+        }
     }
 
-    pub fn ends(&self) -> &[u16]
-        ensures { result.now ≡ (listing_of self.now).ends }
+    /// Adds the row of the `n`-th line.
+    fn add_row(&mut self, line: &[u8], n: usize) -> Result<(), Unread>
+        requires { vec_len self.old.ends + length line.now ≤ 1000000 }
+        ensures row { Meant (with_rows (listing_of self.old) (rows_of n (line.now ∷ []))) (giving (λ _. listing_of self.new) result) }
+        ensures few { vec_len self.new.ends ≤ vec_len self.old.ends + length line.now }
     {
-        self.ends.as_slice()
-    }
-
-    /// Ends a row: the next one starts behind the ends so far.
-    fn end_row(&mut self) -> Result<(), Unread>
-        requires { vec_len self.old.ends ≤ 1000000 }
-        ensures { Meant (Ok (row_ended self.old)) (giving (λ _. listing_of self.new) result) }
-    {
+        for token in Tokens::new(line) {
+            self.ends.push(station(token, n)?)?;
+        }
+        // proved to fit, as there are at most a million; `try_from` would want a fault that never comes
         self.starts.push(self.ends.len() as u32)?;
         Ok(())
     }
@@ -47,26 +52,10 @@ impl Table {
 fn station(token: Token, n: usize) -> Result<u16, Unread>
     ensures { Meant (station_of n (part_of token.entry)) result }
 {
-    match decimal(token.bytes, 5) {
-        Some(station) => Ok(station),
-        None => Err(Unread::NotAStation {
-            line: n,
-            byte: token.byte,
-        }),
-    }
-}
-
-/// Adds the stations of the `n`-th line.
-fn read_line(ends: &mut Vec<u16>, line: &[u8], n: usize) -> Result<(), Unread>
-    ensures said { Meant (with_row ends.old.items (row_of n (tokens_of line.now))) (giving (λ _. ends.new.items) result) }
-    ensures few { vec_len ends.new ≤ vec_len ends.old + length line.now }
-{
-    let mut tokens = Tokens::new(line);
-    while let Some(token) = tokens.next() {
-        let end = station(token, n)?;
-        ends.push(end)?;
-    }
-    Ok(())
+    decimal(token.bytes, 5).ok_or(Unread::NotAStation {
+        line: n,
+        byte: token.byte,
+    })
 }
 
 /// The table of the rows of a text.
@@ -78,12 +67,8 @@ fn read_rows(heap: Global, text: &[u8]) -> Result<Table, Unread>
         starts: vec![in heap; 0]?,
         ends: Vec::new(heap),
     };
-    let mut lines = Lines::new(text);
-    let mut n = 1;
-    while let Some(line) = lines.next() {
-        read_line(&mut table.ends, line, n)?;
-        table.end_row()?;
-        n += 1;
+    for (i, line) in Lines::new(text).enumerate() {
+        table.add_row(line, i + 1)?;
     }
     Ok(table)
 }

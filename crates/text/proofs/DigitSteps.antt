@@ -1,40 +1,44 @@
 -- The value of digits, one digit after the other.
-use Rattle.std.proofs.Common.{◌≡◌, ℕ, ◌+◌, ◌-◌, ◌*◌, ◌<◌, ◌≤◌, Bool, true, false, ◌&&◌, List, [], ◌∷◌, length, get_or, drop, Some, None, ap, ◌∙◌, arith}
+use Rattle.std.proofs.Common.{◌≡◌, ℕ, ◌+◌, ◌-◌, ◌*◌, ◌<◌, ◌≤◌, true, false, cond, ◌&&◌, List, [], ◌∷◌, length, get_or, drop, Option, Some, None, ◌∙◌, arith, nat_le, sym, refl}
 use Rattle.std.specs.Char.{is_ascii_digit}
+use Rattle.std.specs.List.{list_all}
 use Rattle.std.proofs.lemmas.List.{at_drop_more, at_drop_all}
 use Rattle.std.proofs.lemmas.Bool.Decides.{nat_tests}
-use Rattle.text.specs.Texts.{digits, read_on, value_of}
+use Rattle.text.specs.Texts.{read_on, value_of}
 
-pub digits_more : (w : List ℕ) (i : ℕ) (t : Bool) → i < length w → is_ascii_digit (get_or w i 0) ≡ t → digits (drop i w) ≡ (t && digits (drop (i + 1) w))
-unfolding digits
-digits_more w i t h d = at_drop_more digits w i 0 h ∙ ap (λ x. x && digits (drop (i + 1) w)) d
+-- The same behind digits that stand for n.
+unfoldable pub value_on : ℕ → List ℕ → Option ℕ
+value_on n bs = cond (list_all is_ascii_digit bs && nat_le (read_on n bs) 65535) (Some (read_on n bs)) None
 
-pub digits_all : (w : List ℕ) (i : ℕ) → length w ≤ i → digits (drop i w) ≡ true
-unfolding digits
-digits_all w i h = at_drop_all digits w i h
-
-pub reads_more : (n : ℕ) (w : List ℕ) (i : ℕ) → i < length w → read_on n (drop i w) ≡ read_on (n * 10 + (get_or w i 0 - 48)) (drop (i + 1) w)
-unfolding read_on
-reads_more n w i h = at_drop_more (read_on n) w i 0 h
-
-pub reads_all : (n : ℕ) (w : List ℕ) (i : ℕ) → length w ≤ i → read_on n (drop i w) ≡ n
-unfolding read_on
-reads_all n w i h = at_drop_all (read_on n) w i h
+pub from_zero : (bs : List ℕ) → value_on 0 bs ≡ value_of bs
+unfolding value_on value_of
+from_zero bs = refl
 
 -- A value only grows.
-pub reads_up : (n : ℕ) (w : List ℕ) → n ≤ read_on n w
+reads_up : (n : ℕ) (bs : List ℕ) → n ≤ read_on n bs
 unfolding read_on
 reads_up n [] = omega arith
 reads_up n (b ∷ bs) = omega (arith, reads_up (n * 10 + (b - 48)) bs)
 
-pub not_digits : (w : List ℕ) → digits w ≡ false → None ≡ value_of w
-unfolding value_of
-not_digits w e = rw e
+not_small : (n : ℕ) (bs : List ℕ) → 65535 < read_on n bs → None ≡ value_on n bs
+unfolding value_on
+not_small n bs h = grind (arith, nat_tests)
 
-pub not_small : (w : List ℕ) → 65535 < read_on 0 w → None ≡ value_of w
-unfolding value_of
-not_small w h = grind (arith, nat_tests)
+module _ (n : ℕ) (w : List ℕ) (i : ℕ) where
+  pub no_digit : i < length w → is_ascii_digit (get_or w i 0) ≡ false → None ≡ value_on n (drop i w)
+  unfolding value_on
+  no_digit h e = sym (at_drop_more (value_on n) w i 0 h ∙ rw e)
 
-pub gives : (w : List ℕ) (v : ℕ) → v ≡ read_on 0 w → digits w ≡ true → v ≤ 65535 → Some v ≡ value_of w
-unfolding value_of
-gives w v e d fits = grind (arith, nat_tests)
+  pub one_more : i < length w → is_ascii_digit (get_or w i 0) ≡ true → value_on n (drop i w) ≡ value_on (n * 10 + (get_or w i 0 - 48)) (drop (i + 1) w)
+  unfolding value_on read_on
+  one_more h e = at_drop_more (value_on n) w i 0 h ∙ rw e
+
+  pub too_large : i < length w → 65535 < n * 10 + (get_or w i 0 - 48) → None ≡ value_on n (drop i w)
+  unfolding value_on read_on
+  too_large h big =
+      let m = n * 10 + (get_or w i 0 - 48) in
+      not_small n (drop i w) (rw (at_drop_more (read_on n) w i 0 h) (omega (arith, reads_up m (drop (i + 1) w))))
+
+  pub no_more : length w ≤ i → n ≤ 65535 → Some n ≡ value_on n (drop i w)
+  unfolding value_on read_on
+  no_more h fits = sym (at_drop_all (value_on n) w i h ∙ grind (arith, nat_tests))

@@ -1,58 +1,100 @@
 -- The words of a line, one after the other.
-use Rattle.std.proofs.Common.{◌≡◌, ℕ, suc, ◌+◌, ◌-◌, ◌<◌, ◌≤◌, Bool, true, false, eqb, List, [], ◌∷◌, length, get_or, take, drop, refl, ap, ◌∙◌, arith}
-use Rattle.std.proofs.lemmas.List.{at_drop_more, at_drop_all, drop_more, drop-drop, length-drop, length-take-le}
-use Rattle.text.specs.Texts.{upto, tokens}
-use Rattle.text.proofs.Fronts.{by_cases, upto_on, span}
+use Rattle.std.proofs.Common.{◌≡◌, ℕ, suc, ◌+◌, ◌-◌, ◌<◌, Bool, true, false, not, eqb, List, [], ◌∷◌, length, get_or, take, drop, sym, refl, ap, ◌∙◌, arith, Some, None}
+use Rattle.std.specs.List.{position, position_or_len, before_first}
+use Rattle.std.proofs.lemmas.List.{take_rest, get_or-drop, length-drop, drop-drop}
+use Rattle.std.proofs.lemmas.List.Quantifiers.{position-Some}
+use Rattle.std.proofs.lemmas.List.Sums.{prefix_len-le-length}
+use Rattle.std.proofs.lemmas.Bool.Decides.{nat_tests}
+use Rattle.std.proofs.lemmas.Grind.{common_steps}
+use Rattle.std.proofs.lemmas.Option.{cond_some}
+use Rattle.text.specs.Texts.{tokens}
+use Rattle.text.proofs.Fronts.{by_cases, one_on}
 
-none_left : (p : Bool) (at : ℕ) → tokens p at [] ≡ []
+-- The bytes in front of the first space.
+unfoldable pub word : List ℕ → List ℕ
+word bs = before_first (λ b. eqb b 32) bs
+
+pub at_space : (p : Bool) (at b : ℕ) (bs : List ℕ) → eqb b 32 ≡ true → tokens p at (b ∷ bs) ≡ tokens true (at + 1) bs
 unfolding tokens
-none_left p at = refl
+at_space p at b bs e = rw e
 
-space_next : (p : Bool) (at b : ℕ) (bs : List ℕ) → eqb b 32 ≡ true → tokens p at (b ∷ bs) ≡ tokens true (at + 1) bs
+pub at_word : (at b : ℕ) (bs : List ℕ) → eqb b 32 ≡ false → tokens true at (b ∷ bs) ≡ record { byte = at; bytes = word (b ∷ bs) } ∷ tokens false (at + 1) bs
+unfolding tokens word
+at_word at b bs e = rw e
+
+pub in_word : (at b : ℕ) (bs : List ℕ) → eqb b 32 ≡ false → tokens false at (b ∷ bs) ≡ tokens false (at + 1) bs
 unfolding tokens
-space_next p at b bs e = rw e
+in_word at b bs e = rw e
 
-word_next : (at b : ℕ) (bs : List ℕ) → eqb b 32 ≡ false → tokens true at (b ∷ bs) ≡ record { byte = at; bytes = upto 32 (b ∷ bs) } ∷ tokens false at (b ∷ bs)
+-- What is behind n bytes is behind one byte more if one stands in front.
+one_later : (at b : ℕ) (bs : List ℕ) (n : ℕ) → tokens true (at + 1 + n) (drop n bs) ≡ tokens true (at + suc n) (drop (suc n) (b ∷ bs))
+one_later at b bs n = let k : at + 1 + n ≡ at + suc n = omega arith in ap (λ m. tokens true m (drop n bs)) k
+
+-- Where the first place is 0, all is still there.
+none_later : (at n : ℕ) (w : List ℕ) → n ≡ 0 → tokens true at w ≡ tokens true (at + n) (drop n w)
+none_later at n w z = let k : at ≡ at + 0 = omega arith in rw z (ap (λ m. tokens true m w) k)
+
+-- Spaces are passed over.
+skipped : (at : ℕ) (w : List ℕ) → tokens true at w ≡ tokens true (at + position_or_len (λ b. not (eqb b 32)) w) (drop (position_or_len (λ b. not (eqb b 32)) w) w)
 unfolding tokens
-word_next at b bs e = rw e
-
--- A space is passed over.
-pub skipped : (p : Bool) (at : ℕ) (w : List ℕ) (i : ℕ) → i < length w → eqb (get_or w i 0) 32 ≡ true → tokens p at (drop i w) ≡ tokens true (at + 1) (drop (i + 1) w)
-skipped p at w i h e = at_drop_more (tokens p at) w i 0 h ∙ space_next p at (get_or w i 0) (drop (i + 1) w) e
-
--- A word begins.
-pub opened : (at : ℕ) (w : List ℕ) (i : ℕ) → i < length w → eqb (get_or w i 0) 32 ≡ false
-    → tokens true at (drop i w) ≡ record { byte = at; bytes = upto 32 (drop i w) } ∷ tokens false at (drop i w)
-opened at w i h e = rw (drop_more w i 0 h) (word_next at (get_or w i 0) (drop (i + 1) w) e)
-
-pub none_at : (at : ℕ) (w : List ℕ) (i : ℕ) → length w ≤ i → tokens true at (drop i w) ≡ []
-none_at at w i ge = at_drop_all (tokens true at) w i ge ∙ none_left true at
+skipped at [] = refl
+skipped at (b ∷ bs) =
+    let n = position_or_len (λ c. not (eqb c 32)) bs in
+    by_cases (eqb b 32)
+    (λ e. at_space true at b bs e ∙ skipped (at + 1) bs ∙ one_later at b bs n ∙ ap (λ m. tokens true (at + m) (drop m (b ∷ bs))) (sym (one_on (λ c. not (eqb c 32)) b bs (rw e))))
+    (λ e. none_later at (position_or_len (λ c. not (eqb c 32)) (b ∷ bs)) (b ∷ bs) (rw e))
 
 -- Inside a word no other begins.
-past_word : (at : ℕ) (bs : List ℕ) → tokens false at bs ≡ tokens true (at + length (upto 32 bs)) (drop (length (upto 32 bs)) bs)
-unfolding tokens upto
+past_word : (at : ℕ) (w : List ℕ) → tokens false at w ≡ tokens true (at + position_or_len (λ b. eqb b 32) w) (drop (position_or_len (λ b. eqb b 32) w) w)
+unfolding tokens
 past_word at [] = refl
 past_word at (b ∷ bs) =
+    let n = position_or_len (λ c. eqb c 32) bs in
     by_cases (eqb b 32)
-    (λ e. rw e (let k : at + 1 ≡ at + 0 + 1 = omega arith in rw e (ap (λ n. tokens true n bs) k)))
-    (λ e. rw e (past_word (at + 1) bs
-    ∙ (let k : at + 1 + length (upto 32 bs) ≡ at + suc (length (upto 32 bs)) = omega arith in ap (λ n. tokens true n (drop (length (upto 32 bs)) bs)) k)))
+    (λ e. at_space false at b bs e ∙ sym (at_space true at b bs e) ∙ none_later at (position_or_len (λ c. eqb c 32) (b ∷ bs)) (b ∷ bs) (rw e))
+    (λ e. in_word at b bs e ∙ past_word (at + 1) bs ∙ one_later at b bs n ∙ ap (λ m. tokens true (at + m) (drop m (b ∷ bs))) (sym (one_on (λ c. eqb c 32) b bs e)))
 
-pub word_rest : (w : List ℕ) (s r : ℕ) → s ≤ r → r ≤ length w → take (r - s) (drop s w) ≡ upto 32 (drop s w) → tokens false (s + 1) (drop s w) ≡ tokens true (r + 1) (drop r w)
-word_rest w s r le in' e =
-    let k : s + 1 + (r - s) ≡ r + 1 = omega arith in
-    let j : s + (r - s) ≡ r = omega arith in
-    past_word (s + 1) (drop s w) ∙ ap (λ n. tokens true (s + 1 + n) (drop n (drop s w))) (span 32 w s r le in' e)
-    ∙ ap (λ n. tokens true n (drop (r - s) (drop s w))) k ∙ ap (tokens true (r + 1)) (drop-drop (r - s) s w ∙ ap (λ n. drop n w) j)
+-- What `word_start` says of the bytes from `at` on.
+pub no_words : (line : List ℕ) (at : ℕ) → position (λ b. not (eqb b 32)) (take (length line - at) (drop at line)) ≡ None → tokens true (at + 1) (drop at line) ≡ []
+unfolding tokens
+no_words line at h =
+    let u = drop at line in
+    let n = position_or_len (λ b. not (eqb b 32)) u in
+    let none : position (λ b. not (eqb b 32)) u ≡ None = rw take_rest at h in
+    let over : drop n u ≡ [] = grind (arith, common_steps, prefix_len-le-length) in
+    skipped (at + 1) u ∙ ap (tokens true (at + 1 + n)) over
 
--- A word is not empty.
-pub word_past : (w : List ℕ) (s r : ℕ) → s ≤ r → r ≤ length w → s < length w → eqb (get_or w s 0) 32 ≡ false → take (r - s) (drop s w) ≡ upto 32 (drop s w) → s < r
-word_past w s r le in' lt ne e =
-    let k : length (upto 32 (drop s w)) ≡ suc (length (upto 32 (drop (s + 1) w))) = ap length (at_drop_more (upto 32) w s 0 lt ∙ upto_on 32 (get_or w s 0) (drop (s + 1) w) ne) in
-    omega (arith, span 32 w s r le in' e)
+-- A word begins at a byte that is no space, and goes up to the next space.
+opened : (at : ℕ) (w : List ℕ) → 0 < length w → not (eqb (get_or w 0 0) 32) ≡ true
+    → (tokens true at w ≡ record { byte = at; bytes = take (position_or_len (λ b. eqb b 32) w) w } ∷ tokens false at w) × (0 < position_or_len (λ b. eqb b 32) w)
+unfolding word
+opened at [] some clear = absurd (omega arith)
+opened at (b ∷ bs) some clear =
+    let e : eqb b 32 ≡ false = grind (arith, nat_tests) in
+    (at_word at b bs e ∙ ap (λ ws. record { byte = at; bytes = word (b ∷ bs) } ∷ ws) (sym (in_word at b bs e)), omega (arith, one_on (λ c. eqb c 32) b bs e))
 
--- Where a word ends, by its own length.
-pub word_end : (w : List ℕ) (s r : ℕ) → s ≤ r → r ≤ length w → s + 1 - 1 + length (take (r - s) (drop s w)) ≡ r
-word_end w s r le in' =
-    let k : r - s ≤ length (drop s w) = rw length-drop (omega arith) in
-    omega (arith, length-take-le (r - s) (drop s w) k)
+-- The next word is what is cut off from the first byte that is no space up to the next space.
+pub next_word : (line : List ℕ) (at i n : ℕ) → position (λ b. not (eqb b 32)) (take (length line - at) (drop at line)) ≡ Some i
+    → n ≡ position_or_len (λ b. eqb b 32) (take (length line - (at + i)) (drop (at + i) line))
+    → (tokens true (at + 1) (drop at line) ≡ record { byte = at + i + 1; bytes = take (at + i + n - (at + i)) (drop (at + i) line) } ∷ tokens true (at + i + n + 1) (drop (at + i + n) line)) × (0 < n)
+next_word line at i n found h =
+    let p = λ (b : ℕ). not (eqb b 32) in
+    let u = drop at line in
+    let v = drop (at + i) line in
+    let first : position p u ≡ Some i = rw take_rest at found in
+    let long : n ≡ position_or_len (λ b. eqb b 32) v = rw take_rest at h in
+    let at_i = position-Some p u i 0 first in
+    let place : i ≡ position_or_len p u = sym (cond_some _ _ _ first).1 in
+    let inside : at + i < length line = omega (arith, at_i.0, length-drop at line) in
+    let some : 0 < length v = rw length-drop (omega arith) in
+    let z : at + i + 0 ≡ at + i = omega arith in
+    let clear : p (get_or v 0 0) ≡ true = ap p (get_or-drop (at + i) line 0 0 ∙ ap (λ k. get_or line k 0) z ∙ sym (get_or-drop at line i 0)) ∙ at_i.1 in
+    let first_is = opened (at + i + 1) v some clear in
+    let others_are = past_word (at + i + 1) v in
+    let over = skipped (at + 1) u in
+    let over_is = drop-drop i at line in
+    let behind_is = drop-drop n (at + i) line in
+    let k : at + 1 + i ≡ at + i + 1 = omega arith in
+    let l : at + i + n - (at + i) ≡ n = omega arith in
+    let m : at + i + 1 + n ≡ at + i + n + 1 = omega arith in
+    (cc (first_is.0), omega arith)

@@ -1,4 +1,5 @@
-use Rattle.std.specs.Prelude.{◌≡◌, ℕ, ◌+◌, ◌-◌, ◌<◌, ◌≤◌, true, List, [], ◌∷◌, length, drop}
+use Rattle.std.specs.Prelude.{◌≡◌, ℕ, ◌+◌, ◌-◌, ◌<◌, ◌≤◌, true, List, [], ◌∷◌, length, drop, Option, MatchOption}
+use Rattle.std.specs.Borrow.{Bor}
 use Rattle.text.specs.declared.cut.Lines.{Lines}
 use Rattle.text.specs.declared.cut.Token.{Token}
 use Rattle.text.specs.declared.cut.Tokens.{Tokens}
@@ -12,12 +13,6 @@ lines_left s = lines s.rest.now
 abbrev pub unread : Lines → ℕ
 unread s = length s.rest.now
 
--- A text is its first line, without an LF, and then the text of the other lines.
-pub record FirstLine (text line rest : List ℕ) : Type 0 where
-  pub cut : lines text ≡ line ∷ lines rest
-  pub shorter : length rest < length text
-  pub shared : length line + length rest ≤ length text
-
 -- There is no line left, and nothing has changed.
 pub record NoLine (before after : Lines) : Type 0 where
   pub done : lines_left before ≡ []
@@ -28,6 +23,10 @@ pub record NextLine (before after : Lines) (line : List ℕ) : Type 0 where
   pub cut : lines_left before ≡ line ∷ lines_left after
   pub shorter : unread after < unread before
   pub shared : length line + unread after ≤ unread before
+
+-- A call of `next` gave the next line, or none was left.
+abbrev pub GivesLine : Lines → Option (Bor (List ℕ)) → Lines → Type 0
+GivesLine before given after = MatchOption given (NoLine before after) (λ line. NextLine before after line.now)
 
 -- The words of a line from an index on.
 abbrev pub tokens_at : List ℕ → ℕ → List Part
@@ -45,17 +44,6 @@ unread_of s = length s.line.now - s.at
 abbrev pub part_of : Token → Part
 part_of t = record { byte = t.byte; bytes = t.bytes.now }
 
--- The index behind a token.
-abbrev pub behind : Token → ℕ
-behind t = t.byte - 1 + length t.bytes.now
-
--- The words from an index on are a token and the words behind it.
-pub record FirstToken (line : List ℕ) (at : ℕ) (token : Token) : Type 0 where
-  pub cut : tokens_at line at ≡ part_of token ∷ tokens_at line (behind token)
-  pub counted : 0 < token.byte
-  pub past : at < behind token
-  pub within : behind token ≤ length line
-
 -- There is no word left, and nothing has changed.
 pub record NoToken (before after : Tokens) : Type 0 where
   pub done : tokens_left before ≡ []
@@ -65,3 +53,7 @@ pub record NoToken (before after : Tokens) : Type 0 where
 pub record NextToken (before after : Tokens) (token : Token) : Type 0 where
   pub cut : tokens_left before ≡ part_of token ∷ tokens_left after
   pub shorter : unread_of after < unread_of before
+
+-- A call of `next` gave the next word, or none was left.
+abbrev pub GivesToken : Tokens → Option Token → Tokens → Type 0
+GivesToken before given after = MatchOption given (NoToken before after) (λ token. NextToken before after token)

@@ -1,14 +1,14 @@
 use Rattle.std.specs.Prelude.{◌≡◌, ℕ, ◌+◌, ◌-◌, ◌<◌, Bool, true, cond, not, List, [], ◌∷◌, ◌++◌, length, take, drop, filter, ◌==◌, ◌≢◌, slice_index}
-use Rattle.std.specs.List.{flat_map, AllByRecursion}
+use Rattle.std.specs.List.{flat_map, All}
 use Rattle.text.specs.Texts.{lines, Part, tokens_of}
 
 -- None of these bytes is z.
 abbrev pub Without : ℕ → List ℕ → Type 0
-Without z bs = AllByRecursion (λ b. b ≢ z) bs
+Without z bs = All (λ b. b ≢ z) bs
 
 -- No line of a text holds an LF.
 abbrev pub LinesHoldNoEnd : Type 0
-LinesHoldNoEnd = (text : List ℕ) → AllByRecursion (Without 10) (lines text)
+LinesHoldNoEnd = (text : List ℕ) → All (Without 10) (lines text)
 
 -- Lines one after the other, with an LF after each.
 abbrev pub written : List (List ℕ) → List ℕ
@@ -35,7 +35,7 @@ pub record Stands (line : List ℕ) (p : Part) : Type 0 where
 
 -- Each word of a line stands whole in it.
 abbrev pub TokensStand : Type 0
-TokensStand = (line : List ℕ) → AllByRecursion (Stands line) (tokens_of line)
+TokensStand = (line : List ℕ) → All (Stands line) (tokens_of line)
 
 -- Each word begins past the place n, and each further one past the byte behind the word before it.
 abbrev pub Rising : ℕ → List Part → Type 0

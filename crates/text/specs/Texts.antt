@@ -1,20 +1,11 @@
 use Rattle.std.specs.Prelude.{ℕ, ◌+◌, ◌-◌, ◌*◌, Bool, true, false, cond, ◌&&◌, List, [], ◌∷◌, length, Some, None, Option, ◌==◌, nat_le}
 use Rattle.std.specs.Char.{is_ascii_digit}
-
--- The bytes in front of the first `stop`, or all of them.
-unfoldable pub upto : ℕ → List ℕ → List ℕ
-upto stop [] = []
-upto stop (b ∷ bs) = cond (b == stop) [] (b ∷ upto stop bs)
-
--- One byte more at the front of the first line.
-abbrev pub led_by : ℕ → List (List ℕ) → List (List ℕ)
-led_by b [] = (b ∷ []) ∷ []
-led_by b (line ∷ rest) = (b ∷ line) ∷ rest
+use Rattle.std.specs.List.{before_first, onto_first, list_all, fold}
 
 -- The lines of a text: an LF ends a line, any other byte leads the line that it stands in, and the last line needs no LF.
 unfoldable pub lines : List ℕ → List (List ℕ)
 lines [] = []
-lines (b ∷ bs) = cond (b == 10) ([] ∷ lines bs) (led_by b (lines bs))
+lines (b ∷ bs) = cond (b == 10) ([] ∷ lines bs) (onto_first b (lines bs))
 
 -- A word of a line: the place of its first byte, counted from 1, and its bytes.
 pub record Part : Type 0 where
@@ -27,25 +18,19 @@ unfoldable pub tokens : Bool → ℕ → List ℕ → List Part
 tokens parted at [] = []
 tokens parted at (b ∷ bs) =
     cond (b == 32) (tokens true (at + 1) bs)
-    (cond parted (record { byte = at; bytes = upto 32 (b ∷ bs) } ∷ tokens false (at + 1) bs) (tokens false (at + 1) bs))
+    (cond parted (record { byte = at; bytes = before_first (λ c. c == 32) (b ∷ bs) } ∷ tokens false (at + 1) bs) (tokens false (at + 1) bs))
 
 -- The words of a line.
 abbrev pub tokens_of : List ℕ → List Part
 tokens_of line = tokens true 1 line
 
--- Every byte is an ASCII digit.
-unfoldable pub digits : List ℕ → Bool
-digits [] = true
-digits (b ∷ bs) = is_ascii_digit b && digits bs
-
 -- What digits stand for, read from the left, behind digits that stand for n.
 unfoldable pub read_on : ℕ → List ℕ → ℕ
-read_on n [] = n
-read_on n (b ∷ bs) = read_on (n * 10 + (b - 48)) bs
+read_on n bs = fold (λ m b. m * 10 + (b - 48)) n bs
 
 -- The value of digits, if it is at most 65535.
 unfoldable pub value_of : List ℕ → Option ℕ
-value_of bs = cond (digits bs && nat_le (read_on 0 bs) 65535) (Some (read_on 0 bs)) None
+value_of bs = cond (list_all is_ascii_digit bs && nat_le (read_on 0 bs) 65535) (Some (read_on 0 bs)) None
 
 -- The same of one to `most` digits; leading zeros are allowed.
 abbrev pub decimal_of : ℕ → List ℕ → Option ℕ

@@ -1,4 +1,5 @@
 //! What holds of every text, each law promised by a function that does nothing.
+#![tactic(auto, using(crate::proofs::LineLaws::line_laws, crate::proofs::TokenLaws::token_laws))]
 
 ghost use Rattle.text.specs.Laws.{LinesHoldNoEnd, LinesAreTheText, TokensStand, TokensRise, TokensAreAll};
 

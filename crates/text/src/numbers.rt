@@ -3,9 +3,6 @@
 ghost use Rattle.std.specs.Prelude.{◌≡◌};
 ghost use Rattle.text.specs.Texts.{value_of, decimal_of};
 
-/// The greatest number that is read.
-const LARGEST: u32 = 65_535;
-
 /// The value of one to `most` digits, if it fits 16 bits. Leading zeros are allowed.
 pub fn decimal(bytes: &[u8], most: usize) -> Option<u16>
     ensures { result ≡ decimal_of most bytes.now }
@@ -20,16 +17,13 @@ pub fn decimal(bytes: &[u8], most: usize) -> Option<u16>
 fn value(bytes: &[u8]) -> Option<u16>
     ensures { result ≡ value_of bytes.now }
 {
-    let mut sum: u32 = 0;
+    let mut sum: u16 = 0;
     for b in bytes {
         if !b.is_ascii_digit() {
             return None;
         }
-        sum = sum * 10 + (*b - b'0') as u32;
         // A value only grows, so no further digit brings it back.
-        if sum > LARGEST {
-            return None;
-        }
+        sum = sum.checked_mul(10)?.checked_add(u16::from(*b - b'0'))?;
     }
-    Some(sum as u16)
+    Some(sum)
 }

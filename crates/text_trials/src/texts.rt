@@ -2,23 +2,25 @@
 
 use std::test::Fail;
 use tables::Unread;
-use text::{Lines, Tokens, decimal};
-
-/// The next word of a line, with its first byte counted from 1.
-fn next_of<'a>(words: &mut Tokens<'a>) -> Option<(usize, &'a [u8])> {
-    let token = words.next()?;
-    Some((token.byte, token.bytes))
-}
+use text::{Lines, Token, Tokens, decimal};
 
 #[test]
 fn a_text_has_lines_and_a_line_has_words(rt: HostRuntime) {
     let mut text = Lines::new(b"\n 1  22 ");
-    assert!(rt; text.next() == Some(&b""[..]));
-    let mut words = Tokens::new(text.next().unwrap_or(b""));
-    assert!(rt; next_of(&mut words) == Some((2, &b"1"[..])));
-    assert!(rt; next_of(&mut words) == Some((5, &b"22"[..])));
-    assert!(rt; next_of(&mut words).is_none());
-    assert!(rt; text.next().is_none());
+    assert_eq!(rt; text.next(), Some(&b""[..]));
+    let mut words = Tokens::new(text.next().unwrap_or_default());
+    let first = Token {
+        byte: 2,
+        bytes: b"1",
+    };
+    let second = Token {
+        byte: 5,
+        bytes: b"22",
+    };
+    assert_eq!(rt; words.next(), Some(first));
+    assert_eq!(rt; words.next(), Some(second));
+    assert_eq!(rt; words.next(), None);
+    assert_eq!(rt; text.next(), None);
 }
 
 #[test]
@@ -40,8 +42,8 @@ fn numbers_are_read(rt: HostRuntime) {
 #[test]
 fn tables_are_read(rt: HostRuntime) -> Result<(), Fail> {
     let ring = tables::read(rt.alloc(), b"1 2\n0 2\n0 1")?;
-    assert_eq!(rt; ring.starts(), &[0, 2, 4, 6][..]);
-    assert_eq!(rt; ring.ends(), &[1, 2, 0, 2, 0, 1][..]);
+    assert_eq!(rt; ring.listing().starts, &[0, 2, 4, 6][..]);
+    assert_eq!(rt; ring.listing().ends, &[1, 2, 0, 2, 0, 1][..]);
     Ok(())
 }
 

@@ -2,23 +2,13 @@
 
 use std::alloc::{AllocError, Global};
 use std::test::Fail;
-use tables::Table;
-use transcript::{lawful_line, refusal_line};
-use view::listed::measure;
-
-/// What the walkthrough tells of a table.
-fn verdict(heap: Global, table: &Table) -> Result<String, AllocError> {
-    match measure(table.starts(), table.ends()) {
-        Ok(extent) => lawful_line(heap, extent.stations, extent.links),
-        Err(refusal) => refusal_line(heap, refusal),
-    }
-}
+use transcript::Line;
 
 /// What the walkthrough tells last of a text.
 fn last_line(heap: Global, text: &str) -> Result<String, AllocError> {
     match tables::read(heap, text.as_bytes()) {
-        Ok(table) => verdict(heap, &table),
-        Err(unread) => format!(in heap; "{unread}"),
+        Ok(table) => Line::Verdict(table.listing().measure()).to_string(heap),
+        Err(unread) => unread.to_string(heap),
     }
 }
 

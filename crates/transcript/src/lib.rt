@@ -3,4 +3,4 @@
 
 mod lines;
 
-pub use lines::{heading, lawful_line, refusal_line, row_line};
+pub use lines::Line;

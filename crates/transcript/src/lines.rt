@@ -1,51 +1,63 @@
 //! The lines of the walkthrough, without their ends.
 
-ghost use Rattle.std.specs.Prelude.{◌≡◌, ◌++◌, IfOk, string_bytes, OnOk};
-ghost use Rattle.transcript.specs.Wording.{heading as heading_bytes, listed, row_line, lawful_line, refusal_line};
+ghost use Rattle.std.specs.Prelude.{Some};
+ghost use Rattle.transcript.specs.Wording.{listed, told};
 
 use refusals::Refusal;
-use std::alloc::{AllocError, Global};
+use std::fmt;
+use view::listed::Extent;
 
-/// `table of N stations, E ends`.
-pub fn heading(heap: Global, stations: usize, ends: usize) -> Result<String, AllocError>
-    ensures { IfOk result (λ line. string_bytes line ≡ heading_bytes stations ends) }
-{
-    format!(in heap; "table of {stations} stations, {ends} ends")
+/// A line of the walkthrough.
+#[derive(Clone, Copy, PartialEq, Eq, Debug)]
+pub enum Line<'a> {
+    /// `table of N stations, E ends`
+    Heading {
+        stations: usize,
+        ends: usize,
+    },
+    /// `row S: a b c`
+    Row {
+        station: usize,
+        neighbours: &'a [u16],
+    },
+    /// `lawful: N stations, K links`, or the line of the refusal
+    Verdict(Result<Extent, Refusal>),
 }
 
-/// Adds stations to a line, each after a space.
-fn add_stations(line: &mut String, heap: Global, stations: &[u16]) -> Result<(), AllocError>
-    ensures { OnOk result (string_bytes line.new ≡ string_bytes line.old ++ listed stations.now) }
-{
-    for t in stations {
-        let word = format!(in heap; " {t}")?;
-        line.push_str(word.as_str())?;
+impl fmt::Display for Line<'_> {
+    ghost output = { λ line. Some (told line) };
+
+    fn fmt<W: fmt::Write>(&self, f: &mut fmt::Formatter<W>) -> fmt::Result {
+        match *self {
+            Line::Heading { stations, ends } => {
+                write!(f, "table of {stations} stations, {ends} ends")
+            }
+            Line::Row {
+                station,
+                neighbours,
+            } => {
+                let row = Stations(neighbours);
+                write!(f, "row {station}:{row}")
+            }
+            Line::Verdict(Ok(Extent { stations, links })) => {
+                write!(f, "lawful: {stations} stations, {links} links")
+            }
+            Line::Verdict(Err(refusal)) => write!(f, "{refusal}"),
+        }
     }
-    Ok(())
 }
 
-/// `row S: a b c`.
-pub fn row_line(heap: Global, station: usize, neighbours: &[u16]) -> Result<String, AllocError>
-    ensures { IfOk result (λ line. string_bytes line ≡ row_line station neighbours.now) }
-{
-    let mut line = format!(in heap; "row {station}:")?;
-    add_stations(&mut line, heap, neighbours)?;
-    Ok(line)
-}
+/// Stations, each after a space.
+#[derive(Clone, Copy)]
+struct Stations<'a>(&'a [u16]);
 
-/// `lawful: N stations, K links`.
-pub fn lawful_line(heap: Global, stations: usize, links: usize) -> Result<String, AllocError>
-    ensures { IfOk result (λ line. string_bytes line ≡ lawful_line stations links) }
-{
-    format!(in heap; "lawful: {stations} stations, {links} links")
-}
+impl fmt::Display for Stations<'_> {
+    ghost output = { λ row. Some (listed row.0.now) };
 
-/// `refused R place P`.
-pub fn refusal_line(heap: Global, refusal: Refusal) -> Result<String, AllocError>
-    ensures { IfOk result (λ line. string_bytes line ≡ refusal_line refusal) }
-{
-    let number = refusal.number();
-    let place = refusal.place();
-    let line = format!(in heap; "refused {number} place {place}")?;
-    Ok(line)
+    fn fmt<W: fmt::Write>(&self, f: &mut fmt::Formatter<W>) -> fmt::Result {
+        for t in self.0 {
+            write!(f, " {t}")?;
+        }
+        Ok(())
+    }
 }

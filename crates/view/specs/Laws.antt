@@ -2,6 +2,7 @@
 use Rattle.std.specs.Prelude.{◌≡◌, ℕ, ◌≤◌, List, []}
 use Rattle.cores.specs.Site.{Site}
 use Rattle.view.specs.Rows.{Faithful}
+use Rattle.view.specs.Listing.{Lists}
 use Rattle.view.specs.Checked.{checked}
 use Rattle.view.specs.Tables.{Verdict}
 
@@ -11,4 +12,4 @@ StationsOffTheSiteHaveNoNeighbours = (g : Site) (row : ℕ → List ℕ) → Fai
 
 -- The check of two lists judges as the rules say in words.
 abbrev pub TheCheckJudgesInWords : Type 0
-TheCheckJudgesInWords = (starts ends : List ℕ) → Verdict starts ends (checked starts ends)
+TheCheckJudgesInWords = (l : Lists) → Verdict l (checked l)

@@ -10,7 +10,7 @@ use crate::Refusal;
 pub(crate) fn is_sized(count: usize) -> bool
     ensures { result ≡ sized count }
 {
-    1 <= count && count <= 512
+    (1..=512).contains(&count)
 }
 
 /// Refuses a station count outside 1 to 512.

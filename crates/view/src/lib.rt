@@ -5,13 +5,16 @@ ghost use Rattle.std.specs.Prelude.{◌≡◌, ℕ, List, length};
 ghost use Rattle.std.specs.List.{slice_get};
 ghost use Rattle.cores.specs.Site.{Site};
 ghost use Rattle.view.specs.Rows.{Faithful};
+ghost use Rattle.view.specs.Neighbours.{left};
 
 pub mod counts;
 pub mod laws;
 mod lent;
 pub mod links;
 pub mod listed;
+mod neighbours;
 
+pub use neighbours::Neighbours;
 pub use refusals::{Refusal, TableFault};
 
 /// Stations that hear one another. A view means a site, and answers by it.
@@ -21,9 +24,6 @@ pub trait View {
 
     /// The neighbours of each station, in the order in which the view gives them.
     ghost row: { Self → ℕ → List ℕ };
-
-    /// The law of a view.
-    ghost faithful: { (v : Self) → Faithful (site v) (row v) };
 
     /// How many stations there are. They are numbered from 0.
     fn stations(&self) -> usize
@@ -36,4 +36,14 @@ pub trait View {
     /// Which neighbour of a station is at a place, counted from 0, or none.
     fn neighbour(&self, s: usize, place: usize) -> Option<usize>
         ensures { result ≡ slice_get (row self.now s) place };
+
+    /// The law of a view.
+    ghost faithful: { (v : Self) → Faithful (site v) (row v) };
+
+    /// The neighbours of a station, one after the other.
+    final fn neighbours(&self, s: usize) -> Neighbours<'_, Self>
+        ensures { left row result ≡ row self.now s }
+    {
+        Neighbours::new(self, s)
+    }
 }

@@ -1,64 +1,59 @@
 //! Tables of links, judged and opened.
 
 use view::links::count_links;
-use view::listed::{Listed, check as check_table};
+use view::listed::{Extent, Listed, Listing};
 use view::{Refusal, View};
 
 /// The site of eight stations: a group of four, a group of three linked to it, and a last one.
-const STARTS: [u32; 9] = [0, 3, 6, 9, 13, 16, 18, 21, 22];
+const STARTS: &[u32] = &[0, 3, 6, 9, 13, 16, 18, 21, 22];
 
-const ENDS: [u16; 22] = [
+const ENDS: &[u16] = &[
     1, 2, 3, 0, 2, 3, 0, 1, 3, 0, 1, 2, 4, 3, 5, 6, 4, 6, 4, 5, 7, 6,
 ];
 
 const SHAPE: Option<usize> = Some(65_535);
 
-/// A table of at most four starts and four ends, how many there are of each, and the place of its refusal, if any.
-type Case = ([u32; 4], usize, [u16; 4], usize, Option<usize>);
+/// The starts and the ends of a table, and the place of its refusal, if it is refused.
+type Case = (&'static [u32], &'static [u16], Option<usize>);
 
-const CASES: [Case; 14] = [
+const CASES: &[Case] = &[
     // one station, and two that are linked
-    ([0, 0, 0, 0], 2, [0, 0, 0, 0], 0, None),
-    ([0, 1, 2, 0], 3, [1, 0, 0, 0], 2, None),
+    (&[0, 0], &[], None),
+    (&[0, 1, 2], &[1, 0], None),
     // no starts, and no stations
-    ([0, 0, 0, 0], 0, [0, 0, 0, 0], 0, SHAPE),
-    ([0, 0, 0, 0], 1, [0, 0, 0, 0], 0, SHAPE),
+    (&[], &[], SHAPE),
+    (&[0], &[], SHAPE),
     // the first start is not 0
-    ([1, 1, 2, 0], 3, [1, 0, 0, 0], 2, SHAPE),
+    (&[1, 1, 2], &[1, 0], SHAPE),
     // a start falls
-    ([0, 2, 1, 2], 4, [1, 0, 0, 0], 2, SHAPE),
+    (&[0, 2, 1, 2], &[1, 0], SHAPE),
     // the last start is below the length, and past it
-    ([0, 1, 1, 0], 3, [1, 0, 0, 0], 2, SHAPE),
-    ([0, 1, 3, 0], 3, [1, 0, 0, 0], 2, SHAPE),
+    (&[0, 1, 1], &[1, 0], SHAPE),
+    (&[0, 1, 3], &[1, 0], SHAPE),
     // a row lists its own station
-    ([0, 1, 0, 0], 2, [0, 0, 0, 0], 1, Some(0)),
+    (&[0, 1], &[0], Some(0)),
     // a row lists a station off the site
-    ([0, 1, 3, 0], 3, [1, 0, 2, 0], 3, Some(1)),
+    (&[0, 1, 3], &[1, 0, 2], Some(1)),
     // a row repeats an entry, and a row falls
-    ([0, 2, 3, 0], 3, [1, 1, 0, 0], 3, Some(0)),
-    ([0, 1, 2, 4], 4, [2, 2, 1, 0], 4, Some(2)),
+    (&[0, 2, 3], &[1, 1, 0], Some(0)),
+    (&[0, 1, 2, 4], &[2, 2, 1, 0], Some(2)),
     // a row lists a station that does not list it in return
-    ([0, 0, 1, 0], 3, [0, 0, 0, 0], 1, Some(1)),
+    (&[0, 0, 1], &[0], Some(1)),
     // of two bad rows the lower is named
-    ([0, 1, 1, 2], 4, [1, 1, 0, 0], 2, Some(0)),
+    (&[0, 1, 1, 2], &[1, 1], Some(0)),
 ];
 
 /// The place of a table's refusal, if it is refused.
 fn refused(starts: &[u32], ends: &[u16]) -> Option<usize> {
-    match check_table(starts, ends) {
-        Ok(()) => None,
-        Err(refusal) => Some(refusal.place()),
-    }
+    Listing { starts, ends }.check().err().map(|r| r.place())
 }
 
 #[test]
 fn tables_are_judged(rt: HostRuntime) {
-    for (starts, s, ends, e, place) in &CASES {
-        let starts = starts.get(0..*s).unwrap_or(&[]);
-        let ends = ends.get(0..*e).unwrap_or(&[]);
+    for (starts, ends, place) in CASES {
         assert_eq!(rt; refused(starts, ends), *place);
     }
-    assert_eq!(rt; refused(&STARTS, &ENDS), None);
+    assert_eq!(rt; refused(STARTS, ENDS), None);
     assert_eq!(rt;
         refused(&[0; 513], &[]),
         None,
@@ -69,7 +64,10 @@ fn tables_are_judged(rt: HostRuntime) {
 
 #[test]
 fn an_opened_table_answers(rt: HostRuntime) {
-    let view = Listed::open(&STARTS, &ENDS);
+    let view = Listed::open(Listing {
+        starts: STARTS,
+        ends: ENDS,
+    });
     assert_eq!(rt; view.stations(), 8);
     let degrees: [(usize, usize); 5] = [(0, 3), (3, 4), (7, 1), (8, 0), (usize::MAX, 0)];
     for (s, degree) in degrees {
@@ -85,12 +83,30 @@ fn an_opened_table_answers(rt: HostRuntime) {
     for (s, place, neighbour) in neighbours {
         assert_eq!(rt; view.neighbour(s, place), neighbour);
     }
+    assert!(rt; view.neighbours(3).eq([0, 1, 2, 4]));
+    assert!(rt; (&view).neighbours(8).eq([]));
     assert_eq!(rt; count_links(&&view), Ok(11));
 }
 
 #[test]
+fn a_lawful_table_is_measured(rt: HostRuntime) {
+    let eight = Listing {
+        starts: STARTS,
+        ends: ENDS,
+    };
+    let extent = Extent {
+        stations: 8,
+        links: 11,
+    };
+    assert_eq!(rt; eight.measure(), Ok(extent));
+}
+
+#[test]
 fn a_refused_table_opens_without_stations(rt: HostRuntime) {
-    let view = Listed::open(&[0, 1], &[0]);
+    let view = Listed::open(Listing {
+        starts: &[0, 1],
+        ends: &[0],
+    });
     assert_eq!(rt; view.stations(), 0);
     assert_eq!(rt; view.degree(0), 0);
     assert_eq!(rt; count_links(&view), Err(Refusal::CountOutOfRange));

@@ -10,35 +10,34 @@ ghost use Rattle.walkthrough.specs.Ending.{status_of};
 use std::io::Read;
 use std::process::ExitCode;
 use tables::{Table, Unread};
-use transcript::{heading, lawful_line, refusal_line, row_line};
-use view::listed::{measure, row, stations};
+use transcript::Line;
 
 /// Tells the table as it was read, and then the verdict on it.
-fn tell(rt: &HostRuntime, table: &Table) -> anyhow::Result<ExitCode>
-    ensures { let told = listing_of table.now in
-        IfOk result (λ code. exit_status code ≡ status_of (measured told.starts told.ends)) }
+fn tell(rt: &impl Print, table: &Table) -> anyhow::Result<ExitCode>
+    ensures { IfOk result (λ code. exit_status code ≡ status_of (measured (listing_of table.now))) }
 {
-    let heap = rt.alloc();
-    let starts = table.starts();
-    let ends = table.ends();
-    rt.println(heading(heap, stations(starts), ends.len())?)?;
-    for s in 0..stations(starts) {
-        rt.println(row_line(heap, s, row(starts, ends, s))?)?;
+    let listing = table.listing();
+    rt.println(Line::Heading {
+        stations: listing.stations(),
+        ends: listing.ends.len(),
+    })?;
+    // a row does not know its station, so the loop counts
+    for station in 0..listing.stations() {
+        rt.println(Line::Row {
+            station,
+            neighbours: listing.row(station),
+        })?;
     }
-    match measure(starts, ends) {
-        Ok(extent) => {
-            rt.println(lawful_line(heap, extent.stations, extent.links)?)?;
-            Ok(ExitCode::SUCCESS)
-        }
-        Err(refusal) => {
-            rt.println(refusal_line(heap, refusal)?)?;
-            Ok(ExitCode::FAILURE)
-        }
-    }
+    let verdict = listing.measure();
+    rt.println(Line::Verdict(verdict))?;
+    Ok(match verdict {
+        Ok(_) => ExitCode::SUCCESS,
+        Err(_) => ExitCode::FAILURE,
+    })
 }
 
 /// Tells why there is no table.
-fn tell_unread(rt: &HostRuntime, unread: Unread) -> anyhow::Result<ExitCode>
+fn tell_unread(rt: &impl Print, unread: Unread) -> anyhow::Result<ExitCode>
     ensures { IfOk result (λ code. exit_status code ≡ 1) }
 {
     rt.println(unread)?;
@@ -47,11 +46,10 @@ fn tell_unread(rt: &HostRuntime, unread: Unread) -> anyhow::Result<ExitCode>
 
 /// Reads standard input to its end and tells what stands there.
 fn run(rt: &HostRuntime) -> anyhow::Result<ExitCode> {
-    let heap = rt.alloc();
-    let mut text: Vec<u8> = Vec::new(heap);
+    let mut text = Vec::new(rt.alloc());
     // one byte more than a table may have, so that a longer one is seen
     rt.stdin().take(1_000_001).read_to_end(&mut text)?;
-    match tables::read(heap, text.as_slice()) {
+    match tables::read(rt.alloc(), text.as_slice()) {
         Ok(table) => tell(rt, &table),
         Err(unread) => tell_unread(rt, unread),
     }

@@ -1,27 +1,26 @@
 //! The three questions, answered by the lists.
 
-ghost use Rattle.view.specs.Listing.{row as row_of, site_of};
-ghost use Rattle.view.specs.Witness.Listings.{faithful as faithful_lists};
+ghost use Rattle.view.specs.Listing.{lists, row as row_of, site_of};
 
-use super::{Listed, rows};
+use super::Listed;
 use crate::View;
 
 impl View for Listed<'_> {
-    ghost site = { λ v. site_of v.starts.now v.ends.now };
+    ghost site = { λ v. site_of (lists v.listing) };
 
-    ghost row = { λ v. row_of v.starts.now v.ends.now };
+    ghost row = { λ v. row_of (lists v.listing) };
 
-    ghost faithful = { λ v. faithful_lists v.starts.now v.ends.now v.lawful };
+    ghost faithful = { λ v. v.faithful };
 
     fn stations(&self) -> usize {
-        rows::stations(self.starts)
+        self.listing.stations()
     }
 
     fn degree(&self, s: usize) -> usize {
-        rows::row(self.starts, self.ends, s).len()
+        self.listing.row(s).len()
     }
 
     fn neighbour(&self, s: usize, place: usize) -> Option<usize> {
-        rows::entry(rows::row(self.starts, self.ends, s), place)
+        self.listing.row(s).get(place).map(|t| usize::from(*t))
     }
 }

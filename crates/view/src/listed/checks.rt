@@ -1,21 +1,29 @@
-//! The check of two lists.
+//! The check of a listing.
 
 ghost use Rattle.std.specs.Prelude.{◌≡◌};
-ghost use Rattle.view.specs.Checked.{checked};
+ghost use Rattle.view.specs.Listing.{lists};
+ghost use Rattle.view.specs.Checked.{judged, checked};
 
-use super::rows;
+use super::Listing;
 use crate::counts::is_sized;
 use crate::{Refusal, TableFault};
 
-/// Judges a table from any hand: its station count and its shape, then its rows from the lowest.
-pub fn check(starts: &[u32], ends: &[u16]) -> Result<(), Refusal>
-    ensures { result ≡ checked starts.now ends.now }
-{
-    if !(is_sized(rows::stations(starts)) && rows::is_shaped(starts, ends)) {
-        return Err(Refusal::UnlawfulTable(TableFault::Shape));
+impl Listing<'_, '_> {
+    /// The first fault, if any: of the station count and the shape, then of the rows from the lowest.
+    fn judge(&self) -> Result<(), TableFault>
+        ensures { result ≡ judged (lists self.now) }
+    {
+        if !(is_sized(self.stations()) && self.is_shaped()) {
+            return Err(TableFault::Shape);
+        }
+        self.find_bad_row()
+            .map_or(Ok(()), |row| Err(TableFault::Row(row)))
     }
-    match rows::find_bad_row(starts, ends) {
-        Some(row) => Err(Refusal::UnlawfulTable(TableFault::Row(row))),
-        None => Ok(()),
+
+    /// Judges a listing from any hand: its station count and its shape, then its rows from the lowest.
+    pub fn check(&self) -> Result<(), Refusal>
+        ensures { result ≡ checked (lists self.now) }
+    {
+        self.judge().map_err(Refusal::from)
     }
 }

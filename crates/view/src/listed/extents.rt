@@ -1,29 +1,30 @@
-//! How large the site of a table is.
+//! How large the site of a listing is.
 
 ghost use Rattle.std.specs.Prelude.{◌≡◌};
+ghost use Rattle.view.specs.Listing.{lists};
 ghost use Rattle.view.specs.Extents.{measured};
 
-use super::Listed;
-use super::checks::check;
+use super::{Listed, Listing};
 use crate::links::count_links;
 use crate::{Refusal, View};
 
 /// How large a site is.
-#[derive(Clone, Copy)]
+#[derive(Clone, Copy, PartialEq, Eq, Debug)]
 pub struct Extent {
     pub stations: usize,
     pub links: usize,
 }
 
-/// Judges a table, and counts the stations and links of a lawful one.
-pub fn measure<'a>(starts: &'a [u32], ends: &'a [u16]) -> Result<Extent, Refusal>
-    ensures { result ≡ measured starts.now ends.now }
-{
-    check(starts, ends)?;
-    let view = Listed::open(starts, ends);
-    let links = count_links(&view)?;
-    Ok(Extent {
-        stations: view.stations(),
-        links,
-    })
+impl Listing<'_, '_> {
+    /// Judges a listing, and counts the stations and links of a lawful one.
+    pub fn measure(&self) -> Result<Extent, Refusal>
+        ensures { result ≡ measured (lists self.now) }
+    {
+        self.check()?;
+        let view = Listed::open(*self);
+        Ok(Extent {
+            stations: view.stations(),
+            links: count_links(&view)?,
+        })
+    }
 }

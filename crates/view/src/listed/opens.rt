@@ -1,39 +1,33 @@
-//! From two lists to the view that they mean.
+//! From a listing to the view that it means.
 
-ghost use Rattle.std.specs.Prelude.{◌≡◌, true, is_ok};
+ghost use Rattle.std.specs.Prelude.{◌≡◌};
 ghost use Rattle.cores.specs.Site.{no_stations};
-ghost use Rattle.view.specs.Listing.{sound, site_of};
-ghost use Rattle.view.specs.Checked.{checked, opened};
+ghost use Rattle.view.specs.Listing.{lists};
+ghost use Rattle.view.specs.Checked.{opened};
 
-use super::Listed;
-use super::checks::check;
-
-/// Whether the check passes two lists; if so they are sound.
-fn passes(starts: &[u32], ends: &[u16]) -> bool
-    ensures verdict { result ≡ is_ok (checked starts.now ends.now) }
-    ensures sound { result ≡ true → sound starts.now ends.now ≡ true }
-{
-    check(starts, ends).is_ok()
-}
+use super::{Listed, Listing};
+use crate::View;
 
 impl<'a> Listed<'a> {
     /// The view with no stations.
     fn without_stations() -> Listed<'a>
-        ensures { site_of result.starts.now result.ends.now ≡ no_stations }
+        ensures { ⟦<Listed<'a> as View>⟧.site result ≡ no_stations }
     {
         Listed {
-            starts: &[0],
-            ends: &[],
+            listing: Listing {
+                starts: &[0],
+                ends: &[],
+            },
         }
     }
 
-    /// The view that two lists mean, or the view with no stations where the check turns them down.
-    pub fn open(starts: &'a [u32], ends: &'a [u16]) -> Listed<'a>
-        ensures { site_of result.starts.now result.ends.now ≡ opened starts.now ends.now }
+    /// The view that a listing means, or the view with no stations where the check turns it down.
+    pub fn open(listing: Listing<'a, 'a>) -> Listed<'a>
+        ensures { ⟦<Listed<'a> as View>⟧.site result ≡ opened (lists listing.entry) }
     {
-        if passes(starts, ends) {
-            return Listed { starts, ends };
+        if listing.check().is_err() {
+            return Listed::without_stations();
         }
-        Listed::without_stations()
+        Listed { listing }
     }
 }

@@ -1,0 +1,29 @@
+-- The neighbours of a station that are below it, counted along its row.
+use Rattle.std.proofs.Common.{◌≡◌, ℕ, ◌^◌, ◌<◌, ◌≤◌, ltb, List, map, length, filter, sum, arith}
+use Rattle.std.specs.List.{range_with_len}
+use Rattle.std.proofs.lemmas.List.Sums.{length-filter}
+use Rattle.cores.specs.Counting.{bit, count, times}
+use Rattle.cores.specs.Site.{Site}
+use Rattle.cores.proofs.Counts.{count_le}
+use Rattle.cores.proofs.Sums.{total_same, total_le, total_listed, count_total, entries_below}
+use Rattle.view.specs.Rows.{Faithful}
+
+-- a row names each neighbour once, so its entries below s are the links to lower stations
+pub lower_entries : (g : Site) (row : ℕ → List ℕ) → Faithful g row → (s : ℕ) → length (filter (λ t. ltb t s) (row s)) ≡ count s (g.linked s)
+lower_entries g row law s =
+    omega (
+      arith,
+      length-filter (λ t. ltb t s) (row s),
+      entries_below s (row s),
+      count_total s (g.linked s),
+      total_same s (λ t. times t (row s)) (λ t. bit (g.linked s t)) (λ t h. law.once s t),
+    )
+
+-- at most 512 stations have fewer than 512 neighbours each below them
+pub few_lower : (g : Site) (n : ℕ) → n ≤ 512 → sum (map (λ s. count s (g.linked s)) (range_with_len 0 n)) < 2 ^ 64
+few_lower g n h =
+    omega (
+      arith,
+      total_listed n (λ s. count s (g.linked s)),
+      total_le n 512 (λ s. count s (g.linked s)) (λ s l. omega (arith, count_le s (g.linked s))),
+    )
