@@ -88,7 +88,7 @@ impl Refusal {
         }
     }
 
-    /// The place that the refusal names, 0 if it names none.
+    /// The place that the refusal names, 0 if it names none, as the rules give it.
     pub fn place(&self) -> usize
         ensures { result ≡ (told self.now).place }
     {

@@ -15,7 +15,8 @@ use view::listed::Listing;
 /// The longest text that is read, in bytes.
 const LONGEST: usize = 1_000_000;
 
-/// The ends of the links of all stations, and where those of each station start: the two lists of a listed table.
+/// The ends of the links of all stations, and where those of each station start: the form that the rules give a listed
+/// table.
 #[derive(Debug, Drop)]
 pub struct Table {
     starts: Vec<u32>,

@@ -5,11 +5,12 @@ use view::listed::{Extent, Listed, Listing};
 use view::{Refusal, View};
 
 /// The site of eight stations: a group of four, a group of three linked to it, and a last one.
-const STARTS: &[u32] = &[0, 3, 6, 9, 13, 16, 18, 21, 22];
-
-const ENDS: &[u16] = &[
-    1, 2, 3, 0, 2, 3, 0, 1, 3, 0, 1, 2, 4, 3, 5, 6, 4, 6, 4, 5, 7, 6,
-];
+const EIGHT: Listing<'static, 'static> = Listing {
+    starts: &[0, 3, 6, 9, 13, 16, 18, 21, 22],
+    ends: &[
+        1, 2, 3, 0, 2, 3, 0, 1, 3, 0, 1, 2, 4, 3, 5, 6, 4, 6, 4, 5, 7, 6,
+    ],
+};
 
 const SHAPE: Option<usize> = Some(65_535);
 
@@ -44,30 +45,30 @@ const CASES: &[Case] = &[
 ];
 
 /// The place of a table's refusal, if it is refused.
-fn refused(starts: &[u32], ends: &[u16]) -> Option<usize> {
-    Listing { starts, ends }.check().err().map(|r| r.place())
+fn refused(listing: Listing) -> Option<usize> {
+    listing.check().err().map(|r| r.place())
 }
 
 #[test]
 fn tables_are_judged(rt: HostRuntime) {
     for (starts, ends, place) in CASES {
-        assert_eq!(rt; refused(starts, ends), *place);
+        assert_eq!(rt; refused(Listing { starts, ends }), *place);
     }
-    assert_eq!(rt; refused(STARTS, ENDS), None);
+    assert_eq!(rt; refused(EIGHT), None);
+    let ends = &[];
+    let starts = &[0; 513];
     assert_eq!(rt;
-        refused(&[0; 513], &[]),
+        refused(Listing { starts, ends }),
         None,
         "512 stations without a link"
     );
-    assert_eq!(rt; refused(&[0; 514], &[]), SHAPE, "513 stations");
+    let starts = &[0; 514];
+    assert_eq!(rt; refused(Listing { starts, ends }), SHAPE, "513 stations");
 }
 
 #[test]
 fn an_opened_table_answers(rt: HostRuntime) {
-    let view = Listed::open(Listing {
-        starts: STARTS,
-        ends: ENDS,
-    });
+    let view = Listed::open(EIGHT);
     assert_eq!(rt; view.stations(), 8);
     let degrees: [(usize, usize); 5] = [(0, 3), (3, 4), (7, 1), (8, 0), (usize::MAX, 0)];
     for (s, degree) in degrees {
@@ -90,15 +91,11 @@ fn an_opened_table_answers(rt: HostRuntime) {
 
 #[test]
 fn a_lawful_table_is_measured(rt: HostRuntime) {
-    let eight = Listing {
-        starts: STARTS,
-        ends: ENDS,
-    };
     let extent = Extent {
         stations: 8,
         links: 11,
     };
-    assert_eq!(rt; eight.measure(), Ok(extent));
+    assert_eq!(rt; EIGHT.measure(), Ok(extent));
 }
 
 #[test]

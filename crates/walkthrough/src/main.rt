@@ -30,10 +30,7 @@ fn tell(rt: &impl Print, table: &Table) -> anyhow::Result<ExitCode>
     }
     let verdict = listing.measure();
     rt.println(Line::Verdict(verdict))?;
-    Ok(match verdict {
-        Ok(_) => ExitCode::SUCCESS,
-        Err(_) => ExitCode::FAILURE,
-    })
+    Ok(verdict.map_or(ExitCode::FAILURE, |_| ExitCode::SUCCESS))
 }
 
 /// Tells why there is no table.
