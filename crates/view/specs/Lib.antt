@@ -2,6 +2,7 @@ pub mod Rows
 pub mod Neighbours
 pub mod Answers
 pub mod Listing
+pub mod Shown
 pub mod Checked
 pub mod Extents
 pub mod Tables

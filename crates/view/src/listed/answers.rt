@@ -1,14 +1,15 @@
 //! The three questions, answered by the lists.
 
-ghost use Rattle.view.specs.Listing.{lists, row as row_of, site_of};
+ghost use Rattle.view.specs.Listing.{row as row_of, site_of};
+ghost use Rattle.view.specs.Shown.{shown};
 
 use super::Listed;
 use crate::View;
 
 impl View for Listed<'_> {
-    ghost site = { λ v. site_of (lists v.listing) };
+    ghost site = { λ v. site_of (shown v) };
 
-    ghost row = { λ v. row_of (lists v.listing) };
+    ghost row = { λ v. row_of (shown v) };
 
     ghost faithful = { λ v. v.faithful };
 
