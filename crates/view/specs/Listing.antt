@@ -35,12 +35,11 @@ row l s = cond (nat_lt s (stations l)) (between (slice_index l.starts s) (slice_
 abbrev pub no_neighbour : Lists → ℕ → ℕ → Bool
 no_neighbour l s t = (t == s) || nat_le (stations l) t || not (holds (row l t) s)
 
--- An entry t of the row of s is bad if t is s itself, is not on the site, is not above the entry before it, or does not list s in return.
+-- An entry t of the row of s is bad if s cannot have t as a neighbour, or t is not above the entry before it.
 abbrev pub bad_entry : Lists → ℕ → ℕ → Bool
 bad_entry l s place =
     let t = slice_index_or (row l s) place 0 in
-    (t == s) || nat_le (stations l) t || (nat_lt 0 place && nat_le t (slice_index (row l s) (place - 1)))
-    || not (holds (row l t) s)
+    no_neighbour l s t || (nat_lt 0 place && nat_le t (slice_index (row l s) (place - 1)))
 
 -- a row is bad if some entry of it is
 unfoldable pub bad_row : Lists → ℕ → Bool
