@@ -38,8 +38,9 @@ pub enum Refusal {
     TextOutOfForm,
     /// The size line of a survey is missing, late or a second one.
     SizeLineMisplaced,
-    /// The bytes are not a sheet, or the tables cannot be written as one.
-    NotASheet { offset: usize },
+    /// The bytes are not a sheet: the offset of the first field at fault, their length where they are cut, or the first
+    /// extra byte. Or the tables cannot be written as one: the lowest entry at fault.
+    NotASheet { place: usize },
     /// A station's number or its place in the order is not supported by the links.
     StationAtFault { station: usize },
     /// A home or an up is not that of the view.
@@ -100,7 +101,7 @@ impl Refusal {
             | Refusal::HomeOrUpWrong { station } => *station,
             Refusal::AlreadyLinked { lower } | Refusal::NotLinked { lower } => *lower,
             Refusal::BufferShort { needed } => *needed,
-            Refusal::NotASheet { offset } => *offset,
+            Refusal::NotASheet { place } => *place,
             Refusal::UnlawfulTable(fault) => fault.place(),
             Refusal::CountOutOfRange
             | Refusal::TextOutOfForm

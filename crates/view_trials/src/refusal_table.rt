@@ -13,7 +13,7 @@ const TABLE: [(Refusal, u8, usize); 16] = [
     (Refusal::BufferShort { needed: 56 }, 7, 56),
     (Refusal::TextOutOfForm, 8, 0),
     (Refusal::SizeLineMisplaced, 9, 0),
-    (Refusal::NotASheet { offset: 17 }, 10, 17),
+    (Refusal::NotASheet { place: 17 }, 10, 17),
     (Refusal::StationAtFault { station: 7 }, 11, 7),
     (Refusal::HomeOrUpWrong { station: 8 }, 12, 8),
     (Refusal::CountsDiffer, 13, 0),
