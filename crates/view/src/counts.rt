@@ -7,7 +7,7 @@ ghost use Rattle.view.specs.Answers.{counted};
 use crate::Refusal;
 
 /// Whether a station count is 1 to 512.
-pub(crate) fn is_sized(count: usize) -> bool
+pub fn is_sized(count: usize) -> bool
     ensures { result ≡ sized count }
 {
     (1..=512).contains(&count)

@@ -1,0 +1,9 @@
+pub mod FieldLaws
+pub mod SheetLaws
+pub mod RollLaws
+pub mod Runs
+pub mod Lengths
+pub mod Faults
+pub mod Locality
+pub mod FirstFaults
+pub mod CallLaws
