@@ -7,7 +7,7 @@ use Rattle.cores.specs.Counting.{bit, count, times, holds}
 use Rattle.cores.specs.Laws.{Found}
 use Rattle.cores.specs.Site.{Site}
 use Rattle.cores.specs.Numbers.{Group, hears, without, number}
-use Rattle.cores.specs.Drawing.{has_fewest, next, removals, drawn, left, left_at, IsNext, IsDrawn, GreatestMet, TheDrawnOrderRemovesTheFewestFirst, NumbersAreTheGreatestCountsMet}
+use Rattle.cores.specs.Drawing.{has_fewest, next, removed, drawn, left, left_at, IsNext, IsDrawn, GreatestMet, TheDrawnOrderRemovesTheFewestFirst, NumbersAreTheGreatestCountsMet}
 use Rattle.cores.proofs.Searches.{by_cases, same_test, all_at, all_from, lowest_first, lowest_of, least}
 use Rattle.cores.proofs.Counts.{count_le, count_without}
 use Rattle.cores.proofs.Entries.{times_none, times_cons, holds_none, holds_cons, front_place, place_front}
@@ -64,28 +64,28 @@ module _ (g : Site) where
       le_antisymm (p.lowest b q.on_site q.member (sym same)) (q.lowest a p.on_site p.member same)
 
   -- one turn of the removal
-  removals_none : (X : Group) → removals g 0 X ≡ []
-  unfolding removals
-  removals_none X = refl
+  removed_none : (X : Group) → removed g 0 X ≡ []
+  unfolding removed
+  removed_none X = refl
 
-  removals_turn : (i : ℕ) (X : Group)
-      → ((m : ℕ) × IsNext g X m × (removals g (suc i) X ≡ m ∷ removals g i (without m X))) ⊎ (Nobody X × (removals g (suc i) X ≡ []))
-  unfolding removals
-  removals_turn i X = elim (next_is X) [ inl (m, is, p) ↦ inl (m, p, rw (is, removals) refl) | inr (is, nobody) ↦ inr (nobody, rw (is, removals) refl) ]
+  removed_turn : (i : ℕ) (X : Group)
+      → ((m : ℕ) × IsNext g X m × (removed g (suc i) X ≡ m ∷ removed g i (without m X))) ⊎ (Nobody X × (removed g (suc i) X ≡ []))
+  unfolding removed
+  removed_turn i X = elim (next_is X) [ inl (m, is, p) ↦ inl (m, p, rw (is, removed) refl) | inr (is, nobody) ↦ inr (nobody, rw (is, removed) refl) ]
 
   -- each station of X is removed once, if there are turns enough
   nobody_once : (X : Group) → Nobody X → (t : ℕ) → times t [] ≡ bit (ltb t g.size && X t)
   unfolding bit
   nobody_once X nobody t = let none = times_none t in let here = nobody t in grind arith
 
-  removals_once : (i : ℕ) (X : Group) → count g.size X ≤ i → (t : ℕ) → times t (removals g i X) ≡ bit (ltb t g.size && X t)
+  removed_once : (i : ℕ) (X : Group) → count g.size X ≤ i → (t : ℕ) → times t (removed g i X) ≡ bit (ltb t g.size && X t)
   unfolding bit without
-  removals_once zero X few t = rw (removals_none X) (nobody_once X (λ u h. by_cases (X u) (λ x. absurd (omega (arith, count_without g.size X u h x))) (λ x. x)) t)
-  removals_once (suc i) X few t = elim (removals_turn i X) [
+  removed_once zero X few t = rw (removed_none X) (nobody_once X (λ u h. by_cases (X u) (λ x. absurd (omega (arith, count_without g.size X u h x))) (λ x. x)) t)
+  removed_once (suc i) X few t = elim (removed_turn i X) [
     | inl (m, p, is) ↦
         let less = count_without g.size X m p.on_site p.member in
-        let rest = removals_once i (without m X) (omega arith) t in
-        let first = times_cons t m (removals g i (without m X)) in
+        let rest = removed_once i (without m X) (omega arith) t in
+        let first = times_cons t m (removed g i (without m X)) in
         let on_site = p.on_site in
         let member = p.member in
         rw is (grind arith)
@@ -101,18 +101,18 @@ module _ (g : Site) where
   turn_more X m xs p rest zero h = subst (λ Y. IsNext g Y m) (fun_ext (λ t. let none = holds_none t in grind arith)) p
   turn_more X m xs p rest (suc j) h = subst (λ Y. IsNext g Y (get_or xs j 0)) (fun_ext (λ t. let one = holds_cons t m (take j xs) in grind arith)) (rest j (omega arith))
 
-  removals_in_turn : (i : ℕ) (X : Group) → InTurn X (removals g i X)
-  removals_in_turn zero X = rw (removals_none X) (λ j h. absurd (omega arith))
-  removals_in_turn (suc i) X = elim (removals_turn i X) [
-    | inl (m, p, is) ↦ rw is (turn_more X m (removals g i (without m X)) p (removals_in_turn i (without m X)))
+  removed_in_turn : (i : ℕ) (X : Group) → InTurn X (removed g i X)
+  removed_in_turn zero X = rw (removed_none X) (λ j h. absurd (omega arith))
+  removed_in_turn (suc i) X = elim (removed_turn i X) [
+    | inl (m, p, is) ↦ rw is (turn_more X m (removed g i (without m X)) p (removed_in_turn i (without m X)))
     | inr (nobody, is) ↦ rw is (λ j h. absurd (omega arith))
   ]
 
   pub drawn_is : IsDrawn g (drawn g)
   unfolding drawn
   drawn_is = record {
-    each_once = λ t. removals_once g.size (λ u. true) (count_le g.size (λ u. true)) t ∙ ap bit (grind arith);
-    in_turn = removals_in_turn g.size (λ u. true);
+    each_once = λ t. removed_once g.size (λ u. true) (count_le g.size (λ u. true)) t ∙ ap bit (grind arith);
+    in_turn = removed_in_turn g.size (λ u. true);
   }
 
 -- the stations that are left, by their places in the order

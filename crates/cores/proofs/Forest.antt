@@ -5,44 +5,31 @@ use Rattle.cores.specs.Counting.{or_else}
 use Rattle.cores.specs.Laws.{Found}
 use Rattle.cores.specs.Site.{Site, Lawful}
 use Rattle.cores.specs.Numbers.{in_core, number}
-use Rattle.cores.specs.Forest.{Chain, start, step, connected, core_home, home, home_below, up, Parts, IsHome, IsUp, Outermost, UpInWords, ConnectedMeansAChain, TheHomeIsTheLowestOfItsCore}
+use Rattle.cores.specs.Forest.{connected, core_home, home, home_below, up, Parts, IsHome, IsUp, Outermost, UpInWords, ConnectedMeansAChain, TheHomeIsTheLowestOfItsCore}
 use Rattle.cores.proofs.Searches.{by_cases, lowest_first}
 use Rattle.cores.proofs.Numbers.{core_on_site, core_nested, number_held}
-use Rattle.cores.proofs.Reaching.{chain_first, chain_last, chain_onward, chain_back, chain_reaches, reach_chain}
+use Rattle.cores.proofs.Reaching.{Parted, reach_chain, chain_found, reach_parts, reach_wider}
 
 pub connected_chain : ConnectedMeansAChain
 unfolding connected
 connected_chain g law k s t =
-    let core = in_core g k in
-    (reach_chain g core s g.size t, λ c. chain_reaches g core s law (core_on_site g k s (chain_first g core s c)) c)
+    (reach_chain g (in_core g k) s g.size t, chain_found g law (in_core g k) (core_on_site g k) s t)
 
 module _ (g : Site) (law : Lawful g) where
-  chain : (k s t : ℕ) → connected g k s t ≡ true → Chain g (in_core g k) s t
-  chain k s t = (connected_chain g law k s t).0
-
-  unchain : (k s t : ℕ) → Chain g (in_core g k) s t → connected g k s t ≡ true
-  unchain k s t = (connected_chain g law k s t).1
+  parted : (k : ℕ) → Parted (in_core g k) (connected g k)
+  unfolding connected
+  parted k = reach_parts g law (in_core g k) (core_on_site g k)
 
   pub connected_parts : (k : ℕ) → Parts g k
-  connected_parts k =
-      let core = in_core g k in
-      record {
-        inside = λ s t e. let c = chain k s t e in (chain_first g core s c, chain_last g core s c);
-        itself = λ s x. unchain k s s (start x);
-        back = λ s t e. unchain k t s (chain_back g core law s (chain k s t e));
-        onward = λ s t u e f. unchain k s u (chain_onward g core s t (chain k s t e) (chain k t u f));
-      }
+  connected_parts k = let p = parted k in record { inside = p.inside; itself = p.itself; back = p.back; onward = p.onward }
 
   pub connected_on_site : (k s t : ℕ) → connected g k s t ≡ true → t < g.size
   connected_on_site k s t e = core_on_site g k t ((connected_parts k).inside s t e).1
 
   -- a lower core connects all that a higher one does
   pub connected_lower : (j k s t : ℕ) → j ≤ k → connected g k s t ≡ true → connected g j s t ≡ true
-  connected_lower j k s t o e = unchain j s t (lower (chain k s t e))
-    where
-      lower : {u : ℕ} → Chain g (in_core g k) s u → Chain g (in_core g j) s u
-      lower (start x) = start (core_nested g j k s o x)
-      lower (step {u = u} c l x) = step (lower c) l (core_nested g j k u o x)
+  unfolding connected
+  connected_lower j k s t o = reach_wider g law (in_core g j) (core_on_site g j) (in_core g k) (λ u. core_nested g j k u o) s t
 
   -- h is the home of the k-core around s
   pub record IsCoreHome (k s h : ℕ) : Type 0 where

@@ -6,6 +6,7 @@ pub mod Sites
 pub mod Numbers
 pub mod Reaching
 pub mod Forest
+pub mod ByNumbers
 pub mod Drawing
 pub mod Orders
 pub mod Lifting

@@ -1,11 +1,12 @@
 -- Chains inside a group, and how far a bounded search for one has to go.
-use Rattle.std.proofs.Common.{◌≡◌, ℕ, zero, suc, ◌<◌, true, false, ◌&&◌, eqb, ◌⊎◌, refl, ◌∙◌, subst, inl, inr, arith}
-use Rattle.std.proofs.lemmas.Bool.{false≢true, and_parts, or_cases, cases_lt, eqb-true}
+use Rattle.std.proofs.Common.{◌≡◌, ℕ, zero, suc, ◌<◌, Bool, true, false, ◌&&◌, ◌||◌, eqb, ◌⊎◌, sym, refl, ◌∙◌, subst, inl, inr, arith}
+use Rattle.std.specs.Cmp.{IsEquivalence}
+use Rattle.std.proofs.lemmas.Bool.{false≢true, and_parts, or_cases, cases_eq, cases_lt, eqb-true}
 use Rattle.cores.specs.Counting.{count, some}
 use Rattle.cores.specs.Site.{Site, Lawful}
 use Rattle.cores.specs.Numbers.{Group}
 use Rattle.cores.specs.Forest.{Chain, start, step, reaches}
-use Rattle.cores.proofs.Searches.{some_found, some_one}
+use Rattle.cores.proofs.Searches.{same_test, some_found, some_one}
 use Rattle.cores.proofs.Counts.{count_le, count_lt, count_same}
 
 module _ (g : Site) (X : Group) where
@@ -86,3 +87,61 @@ module _ (g : Site) (X : Group) where
     unfolding reaches
     reach_chain zero t e = let (x, same) = and_parts (X t) (eqb s t) e in subst (λ u. Chain g X s u) (eqb-true s t same) (start (rw (eqb-true s t same) x))
     reach_chain (suc i) u e = elim (reach_last i u e) [ inl before ↦ reach_chain i u before | inr (t, h, w, l, x) ↦ step (reach_chain i t w) l x ]
+
+-- A relation parts a group: each member is with itself, and it goes both ways and carries over.
+pub record Parted (X : Group) (together : ℕ → ℕ → Bool) : Type 0 where
+  pub inside : (s t : ℕ) → together s t ≡ true → (X s ≡ true) × (X t ≡ true)
+  pub itself : (s : ℕ) → X s ≡ true → together s s ≡ true
+  pub back : (s t : ℕ) → together s t ≡ true → together t s ≡ true
+  pub onward : (s t u : ℕ) → together s t ≡ true → together t u ≡ true → together s u ≡ true
+
+-- so to be one and the same, or with each other, is an equivalence
+abbrev pub same_or : (ℕ → ℕ → Bool) → ℕ → ℕ → Bool
+same_or together s t = eqb s t || together s t
+
+pub parted_equivalence : (X : Group) (together : ℕ → ℕ → Bool) → Parted X together → IsEquivalence (same_or together)
+parted_equivalence X together p = record {
+  refl = λ s. grind arith;
+  symm = both;
+  congr = λ s t u e. same_test (same_or together s u) (same_or together t u) (onward t s u (sym (both s t) ∙ e)) (onward s t u e);
+}
+  where
+    back : (s t : ℕ) → same_or together s t ≡ true → same_or together t s ≡ true
+    back s t e = let other = p.back s t in grind arith
+
+    both : (s t : ℕ) → same_or together s t ≡ same_or together t s
+    both s t = same_test (same_or together s t) (same_or together t s) (back s t) (back t s)
+
+    onward : (s t u : ℕ) → same_or together s t ≡ true → same_or together t u ≡ true → same_or together s u ≡ true
+    onward s t u e f = elim (cases_eq s t) [
+      | inl d ↦ rw d f
+      | inr d ↦ elim (cases_eq t u) [
+        | inl x ↦ rw (← x) e
+        | inr x ↦ let on = p.onward s t u in grind arith
+      ]
+    ]
+
+-- the search with as many links as stations, in a group of stations of a lawful site
+module _ (g : Site) (law : Lawful g) (X : Group) (on_site : (s : ℕ) → X s ≡ true → s < g.size) where
+  pub chain_found : (s t : ℕ) → Chain g X s t → reaches g X g.size s t ≡ true
+  chain_found s t c = chain_reaches g X s law (on_site s (chain_first g X s c)) c
+
+  pub reach_parts : Parted X (reaches g X g.size)
+  reach_parts =
+      let chain = λ (s t : ℕ). reach_chain g X s g.size t in record {
+        inside = λ s t e. (chain_first g X s (chain s t e), chain_last g X s (chain s t e));
+        itself = λ s x. chain_found s s (start x);
+        back = λ s t e. chain_found t s (chain_back g X law s (chain s t e));
+        onward = λ s t u e f. chain_found s u (chain_onward g X s t (chain s t e) (chain t u f));
+      }
+
+  pub reach_link : (s t : ℕ) → X s ≡ true → X t ≡ true → g.linked s t ≡ true → reaches g X g.size s t ≡ true
+  reach_link s t x y l = chain_found s t (step (start x) l y)
+
+  -- a larger group reaches all that a smaller one does
+  pub reach_wider : (Y : Group) → ((s : ℕ) → Y s ≡ true → X s ≡ true) → (s t : ℕ) → reaches g Y g.size s t ≡ true → reaches g X g.size s t ≡ true
+  reach_wider Y within s t e = chain_found s t (wider (reach_chain g Y s g.size t e))
+    where
+      wider : {u : ℕ} → Chain g Y s u → Chain g X s u
+      wider (start x) = start (within s x)
+      wider (step {u = u} c l x) = step (wider c) l (within u x)

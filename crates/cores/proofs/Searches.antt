@@ -122,6 +122,25 @@ unfolding lowest
 lowest_found zero p k h e here = absurd (omega arith)
 lowest_found (suc n) p k h e here = let below = lowest_found n p k in grind arith
 
+pub lowest_same : (n : ℕ) (p q : ℕ → Bool) → ((t : ℕ) → t < n → p t ≡ q t) → lowest n p ≡ lowest n q
+unfolding lowest
+lowest_same zero p q same = refl
+lowest_same (suc n) p q same = let below = lowest_same n p q (λ t h. same t (omega arith)) in let here = same n (omega arith) in grind arith
+
+-- what is found is below n
+pub lowest_below : (n : ℕ) (p : ℕ → Bool) (k : ℕ) → lowest n p ≡ Some k → k < n
+lowest_below n p k e = go (lowest n p) e (lowest_first n p)
+  where
+    go : (o : Option ℕ) → o ≡ Some k → Found n p o → k < n
+    go (Some t) d (l, passes, first) = let same : t ≡ k = cc in omega arith
+    go None d none = absurd (cc)
+
+-- where none passes, none is found
+pub lowest_absent : (n : ℕ) (p : ℕ → Bool) → ((t : ℕ) → t < n → p t ≡ false) → lowest n p ≡ None
+unfolding lowest
+lowest_absent zero p none = refl
+lowest_absent (suc n) p none = let below = lowest_absent n p (λ t h. none t (omega arith)) in let here = none n (omega arith) in grind arith
+
 -- where none is found, none passes
 pub lowest_at : (n : ℕ) (p : ℕ → Bool) (k : ℕ) → is_some (lowest n p) ≡ false → k < n → p k ≡ false
 unfolding lowest

@@ -76,7 +76,8 @@ entries_below n (x ∷ xs) =
     let rest = entries_below n xs in
     grind arith
 
-entries_all : (n : ℕ) (xs : List ℕ) → ((t : ℕ) → 0 < times t xs → t < n) → count_by (λ t. ltb t n) xs ≡ length xs
+-- a list of numbers below n has as many entries
+pub entries_all : (n : ℕ) (xs : List ℕ) → ((t : ℕ) → 0 < times t xs → t < n) → count_by (λ t. ltb t n) xs ≡ length xs
 unfolding bit
 entries_all n [] f = refl
 entries_all n (x ∷ xs) f =

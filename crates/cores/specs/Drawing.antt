@@ -13,13 +13,13 @@ unfoldable pub next : Site → Group → Option ℕ
 next g X = lowest g.size (has_fewest g X)
 
 -- the stations of X as they are removed, i at most
-unfoldable pub removals : Site → ℕ → Group → List ℕ
-removals g zero X = []
-removals g (suc i) X = elim (next g X) [ None ↦ [] | Some m ↦ m ∷ removals g i (without m X) ]
+unfoldable pub removed : Site → ℕ → Group → List ℕ
+removed g zero X = []
+removed g (suc i) X = elim (next g X) [ None ↦ [] | Some m ↦ m ∷ removed g i (without m X) ]
 
 -- the drawn order
 unfoldable pub drawn : Site → List ℕ
-drawn g = removals g g.size (λ t. true)
+drawn g = removed g g.size (λ t. true)
 
 -- the stations that are left when the first i of an order are gone
 unfoldable pub left : List ℕ → ℕ → Group

@@ -5,4 +5,5 @@ pub mod Numbers
 pub mod Forest
 pub mod Drawing
 pub mod Orders
+pub mod ByNumbers
 pub mod Links

@@ -7,6 +7,7 @@ ghost use Rattle.cores.specs.Numbers.{TheSearchTriesEveryGroup, TheCoreSetIsTheL
 ghost use Rattle.cores.specs.Forest.{ConnectedMeansAChain, ConnectedCoresPartTheCoreSet, TheHomeIsTheLowestOfItsCore, TheUpIsTheNearestHomeBelow};
 ghost use Rattle.cores.specs.Drawing.{TheDrawnOrderRemovesTheFewestFirst, NumbersAreTheGreatestCountsMet};
 ghost use Rattle.cores.specs.Orders.{RightfulHoldsAtEachPlace, TheDrawnOrderIsRightful, AfterIsTheRestBehind, AtFaultIsJudgedAtItsPlace, FaultlessMeansCoreNumbersInARightfulOrder};
+ghost use Rattle.cores.specs.ByNumbers.{ConnectedByNumbersMeansAChain, ByCoreNumbersTheyAreThoseOfTheSite};
 ghost use Rattle.cores.specs.Links.{MovingIsHavingAnotherNumber, OneLinkMoreLiftsByOne, OneLinkLessLowersByOne, OneLinkMoreOrLessIsLawful, OneLinkMoreAndLessUndoEachOther};
 
 /// All numbers pass a test if each does, and some do if one does.
@@ -133,6 +134,16 @@ pub fn at_fault_is_judged_at_its_place()
 /// No station is at fault exactly for the core numbers and an order that is rightful for them.
 pub fn faultless_means_core_numbers()
     ensures { FaultlessMeansCoreNumbersInARightfulOrder }
+{}
+
+/// Connected at k by a table of numbers means that a chain of stations that have k or more leads from one to the other.
+pub fn connected_by_numbers_means_a_chain()
+    ensures { ConnectedByNumbersMeansAChain }
+{}
+
+/// By the core numbers, homes and ups are those of the site.
+pub fn core_numbers_give_homes_and_ups()
+    ensures { ByCoreNumbersTheyAreThoseOfTheSite }
 {}
 
 /// Moving is having another number.

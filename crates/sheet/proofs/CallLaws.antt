@@ -6,11 +6,13 @@ use Rattle.refusals.specs.declared.Refusal.{Refusal}
 use Rattle.refusals.specs.declared.Refusal.TheVariants.{CountOutOfRange, BufferShort}
 use Rattle.cores.specs.Site.{sized}
 use Rattle.cores.proofs.Searches.{by_cases}
+use Rattle.view.specs.Answers.{with_room}
 use Rattle.view.proofs.Admitted.{sized_within}
-use Rattle.sheet.specs.Plans.{Plan, stations, has_equal_lengths, lowest_fault}
+use Rattle.sheet.specs.Plans.{Plan, WellFormed, stations, has_equal_lengths, lowest_fault}
 use Rattle.sheet.specs.Encoding.{encode}
 use Rattle.sheet.specs.Decoding.{decode}
-use Rattle.sheet.specs.Calls.{up_in_table, up_meant, plan_in, for_buffer, put_bytes, WhatIsPutIsReadBack, WhatIsReadIsPutBack}
+use Rattle.view.specs.Ups.{up_in_table, up_meant}
+use Rattle.sheet.specs.Calls.{plan_in, for_buffer, put_bytes, WhatIsPutIsReadBack, WhatIsReadIsPutBack}
 use Rattle.sheet.proofs.SheetLaws.{accepted, written_and_read}
 use Rattle.sheet.proofs.Faults.{well_formed_without_fault}
 
@@ -51,10 +53,10 @@ meant_back : (o : Option ℕ) → ((u : ℕ) → o ≡ Some u → u < 65535) →
 meant_back None few = refl
 meant_back (Some u) few = let other : eqb u 65535 ≡ false = (let small = few u refl in grind (arith, nat_tests)) in rw other refl
 
-pub read_is_put_back : WhatIsReadIsPutBack
-read_is_put_back bytes p room are enough e =
-    let (well, back) = accepted bytes p e in
-    let same = back are in
+-- the tables of a well-formed plan are put as its sheet, if there is room for it
+pub well_formed_is_put : (p : Plan) (room : ℕ) → WellFormed p
+    → put_bytes (plan_in p.numbers p.homes (map up_in_table p.ups) p.order) room ≡ with_room (length (encode p)) room (encode p)
+well_formed_is_put p room well =
     let few = sized_within (stations p) well.counted in
     let ups_back : map up_meant (map up_in_table p.ups) ≡ p.ups
     = ext_get_or None (map up_meant (map up_in_table p.ups)) p.ups (length-map (map up_in_table p.ups) up_meant ∙ length-map p.ups up_in_table) (λ k h.
@@ -64,5 +66,11 @@ read_is_put_back bytes p room are enough e =
     ∙ ap up_meant (get_or-map up_in_table p.ups k None 0 on_list)
     ∙ meant_back (get_or p.ups k None) (λ u d. omega (arith, ((well.fits k on_site).up u d).0))) in
     let none = (well_formed_without_fault p well.counted well.lengths).1 well in
+    rw (ups_back, well.counted, well.lengths, none) refl
+
+pub read_is_put_back : WhatIsReadIsPutBack
+read_is_put_back bytes p room are enough e =
+    let (well, back) = accepted bytes p e in
+    let same = back are in
     let fits : leb (length (encode p)) room ≡ true = grind (arith, nat_tests) in
-    rw (ups_back, well.counted, well.lengths, none, fits) (ap (λ b. Ok b) same)
+    well_formed_is_put p room well ∙ rw fits (ap (λ b. Ok b) same)

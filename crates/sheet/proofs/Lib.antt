@@ -7,3 +7,4 @@ pub mod Faults
 pub mod Locality
 pub mod FirstFaults
 pub mod CallLaws
+pub mod SiteLaws

@@ -75,21 +75,21 @@ order_end n i X table rest whole all so_far =
 
 -- ---- a table that is filled from the front
 
-pub record Filled {A : Type 0} (part : A → ℕ) (i : ℕ) (items : List A) (old table : List ℕ) : Type 0 where
+pub record Filled {A B : Type 0} (part : A → B) (i : ℕ) (items : List A) (old table : List B) : Type 0 where
   pub front : take i table ≡ map part (take i items)
   pub behind : drop i table ≡ drop i old
 
-pub Filled-none : {A : Type 0} (part : A → ℕ) (items : List A) (table : List ℕ) → Filled part 0 items table table
+pub Filled-none : {A B : Type 0} (part : A → B) (items : List A) (table : List B) → Filled part 0 items table table
 Filled-none part items table = record { front = refl; behind = refl }
 
-pub Filled-more : {A : Type 0} (part : A → ℕ) (i : ℕ) (items : List A) (old table : List ℕ) (x : A) (v : ℕ) → i < length items → i < length table → x ≡ get_or items i x → part x ≡ v
+pub Filled-more : {A B : Type 0} (part : A → B) (i : ℕ) (items : List A) (old table : List B) (x : A) (v : B) → i < length items → i < length table → x ≡ get_or items i x → part x ≡ v
     → Filled part i items old table → Filled part (i + 1) items old (set table i v)
 Filled-more part i items old table x v h l at is f = record {
   front = take_more_set table i v l ∙ rw (f.front, take_more items i x h, ← at, map-append, is) refl;
   behind = drop-set-lt (i + 1) table i v (omega arith) ∙ sym (drop-drop 1 i table) ∙ ap (drop 1) f.behind ∙ drop-drop 1 i old;
 }
 
-pub Filled-all : {A : Type 0} (part : A → ℕ) (n : ℕ) (items : List A) (old table : List ℕ) → length items ≡ n → Filled part n items old table → table ≡ map part items ++ drop n old
+pub Filled-all : {A B : Type 0} (part : A → B) (n : ℕ) (items : List A) (old table : List B) → length items ≡ n → Filled part n items old table → table ≡ map part items ++ drop n old
 Filled-all part n items old table long f = sym (take-append-drop n table) ∙ rw (f.front, f.behind, take_all n items (omega arith)) refl
 
 -- ---- a whole sheet

@@ -1,38 +1,17 @@
--- What read and put answer, and what they leave in the lent tables and the lent buffer. Assumes nothing.
-use Rattle.std.specs.Prelude.{◌≡◌, ℕ, ◌<◌, ◌≤◌, All, cond, ◌&&◌, List, ◌++◌, length, map, drop, min, Some, None, Ok, Err, Option, Result, ◌==◌, nat_le}
-use Rattle.std.specs.Result.{result_map_both}
+-- What read writes to the lent tables, and put to the lent buffer. Assumes nothing.
+use Rattle.std.specs.Prelude.{◌≡◌, ℕ, ◌<◌, ◌≤◌, All, cond, ◌&&◌, List, length, map, min, Some, None, Ok, Err, Option, Result}
 use Rattle.refusals.specs.declared.Refusal.{Refusal}
-use Rattle.refusals.specs.declared.Refusal.TheVariants.{CountOutOfRange, BufferShort, NotASheet}
+use Rattle.refusals.specs.declared.Refusal.TheVariants.{CountOutOfRange, NotASheet}
 use Rattle.cores.specs.Site.{sized}
+use Rattle.view.specs.Answers.{with_room}
+use Rattle.view.specs.Ups.{up_in_table, up_meant}
 use Rattle.sheet.specs.Plans.{Plan, stations, has_equal_lengths, lowest_fault}
 use Rattle.sheet.specs.Encoding.{encode}
 use Rattle.sheet.specs.Decoding.{decode}
 
--- an up as a table has it: 65,535 is no up
-abbrev pub up_in_table : Option ℕ → ℕ
-up_in_table None = 65535
-up_in_table (Some u) = u
-
--- and what a table means by it
-abbrev pub up_meant : ℕ → Option ℕ
-up_meant u = cond (u == 65535) None (Some u)
-
 -- the plan that four tables hold
 abbrev pub plan_in : List ℕ → List ℕ → List ℕ → List ℕ → Plan
 plan_in numbers homes ups order = record { numbers = numbers; homes = homes; ups = map up_meant ups; order = order }
-
--- what needs so much room is refused where there is less
-abbrev pub with_room : {A : Type 0} → ℕ → ℕ → A → Result A Refusal
-with_room needed room x = cond (nat_le needed room) (Ok x) (Err (BufferShort needed))
-
--- what a call answers: how much it accepted, or its refusal
-abbrev pub answer : {A : Type 0} → (A → ℕ) → Result A Refusal → Result ℕ Refusal
-answer size outcome = result_map_both size (λ e. e) outcome
-
--- what a call leaves in a table or a buffer: in front what it answers for, behind it what stood there, and after a refusal all that stood there
-abbrev pub left_in : {A : Type 0} → (A → List ℕ) → Result A Refusal → List ℕ → List ℕ
-left_in part (Ok x) old = part x ++ drop (length (part x)) old
-left_in part (Err e) old = old
 
 -- the room in four tables
 abbrev pub least_room : List ℕ → List ℕ → List ℕ → List ℕ → ℕ

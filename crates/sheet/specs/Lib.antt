@@ -5,3 +5,4 @@ pub mod Decoding
 pub mod Places
 pub mod Calls
 pub mod Parts
+pub mod Sites

@@ -6,7 +6,7 @@ use crate::Refusal;
 use crate::entry::Entry;
 
 /// The length of the longest sheet: two bytes, and seven for each of 512 stations.
-pub(crate) const LONGEST: usize = 3_586;
+pub const LONGEST: usize = 3_586;
 
 /// The front of a sheet.
 #[derive(Drop)]
@@ -19,7 +19,7 @@ pub(crate) struct Draft {
 impl Draft {
     ghost use Rattle.std.specs.Prelude.{◌≡◌, ◌+◌, ◌<◌, [], ◌∷◌, ◌++◌, length};
     ghost use Rattle.sheet.specs.Encoding.{field, field_if, up_field, entry_bytes};
-    ghost use Rattle.sheet.specs.Calls.{answer, with_room, left_in};
+    ghost use Rattle.view.specs.Answers.{answer, with_room, left_in};
     ghost use Rattle.sheet.specs.Parts.{bytes_written};
 
     /// Nothing yet.

@@ -5,6 +5,7 @@ ghost use Rattle.sheet.specs.Encoding.{ASheetIsBytes, TheLengthsOfSheets};
 ghost use Rattle.sheet.specs.Decoding.{APlanWrittenAndReadIsTheSame, ASheetReadAndWrittenIsTheSame, WhatIsAcceptedIsWellFormed};
 ghost use Rattle.sheet.specs.Places.{TheFirstFaultIsNamed};
 ghost use Rattle.sheet.specs.Calls.{WhatIsPutIsReadBack, WhatIsReadIsPutBack};
+ghost use Rattle.sheet.specs.Sites.{PlansOfSitesAreWellFormed};
 
 /// A plan is without fault at an entry exactly if it fits and the order is as it should be there.
 pub fn without_fault_the_entry_fits()
@@ -54,4 +55,9 @@ pub fn put_is_read_back()
 /// Tables that are read from a sheet are put as that sheet.
 pub fn read_is_put_back()
     ensures { WhatIsReadIsPutBack }
+{}
+
+/// The plan of a lawful site of 1 to 512 stations is well formed, and its sheet is read back as that plan.
+pub fn plans_of_sites_are_well_formed()
+    ensures { PlansOfSitesAreWellFormed }
 {}

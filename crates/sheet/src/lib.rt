@@ -12,9 +12,7 @@ mod tables;
 mod unpacked;
 mod writing;
 
+pub use draft::LONGEST;
 pub use reading::read;
-pub use view::Refusal;
+pub use view::{NO_UP, Refusal};
 pub use writing::put;
-
-/// In a table of ups: this station has no up.
-pub const NO_UP: u16 = 65_535;

@@ -2,7 +2,9 @@
 
 ghost use Rattle.std.specs.Prelude.{◌≡◌, map};
 ghost use Rattle.sheet.specs.Plans.{stations};
-ghost use Rattle.sheet.specs.Calls.{up_in_table, read_into, answer, left_in};
+ghost use Rattle.view.specs.Answers.{answer, left_in};
+ghost use Rattle.view.specs.Ups.{up_in_table};
+ghost use Rattle.sheet.specs.Calls.{read_into};
 
 use crate::Refusal;
 use crate::unpacked::Unpacked;

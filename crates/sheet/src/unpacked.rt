@@ -21,7 +21,7 @@ impl Unpacked {
     ghost use Rattle.std.specs.Result.{result_map_both};
     ghost use Rattle.refusals.specs.declared.Refusal.TheVariants.{NotASheet};
     ghost use Rattle.sheet.specs.Decoding.{sheet_at, decode};
-    ghost use Rattle.sheet.specs.Calls.{up_in_table};
+    ghost use Rattle.view.specs.Ups.{up_in_table};
     ghost use Rattle.sheet.specs.Parts.{plan_of_unpacked, unpacked};
 
     /// Reads a whole sheet.

@@ -1,7 +1,8 @@
 //! Put: from four tables to a sheet.
 
 ghost use Rattle.std.specs.Prelude.{◌≡◌, length};
-ghost use Rattle.sheet.specs.Calls.{plan_in, put_bytes, answer, left_in};
+ghost use Rattle.view.specs.Answers.{answer, left_in};
+ghost use Rattle.sheet.specs.Calls.{plan_in, put_bytes};
 
 use crate::Refusal;
 use crate::tables::Tables;

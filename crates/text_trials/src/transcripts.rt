@@ -28,3 +28,48 @@ fn the_last_line_tells_the_verdict(rt: HostRuntime) -> Result<(), Fail> {
     }
     Ok(())
 }
+
+#[test]
+fn a_line_tells_what_was_removed(rt: HostRuntime) -> Result<(), Fail> {
+    let line = Line::Removed {
+        station: 7,
+        left: 12,
+    };
+    assert_eq!(rt;
+        line.to_string(rt.alloc())?.as_str(),
+        "removed 7 with 12 left"
+    );
+    Ok(())
+}
+
+#[test]
+fn a_line_tells_of_a_station(rt: HostRuntime) -> Result<(), Fail> {
+    let cases: [(Option<u16>, &str); 3] = [
+        (Some(30), "station 4 number 10 home 20 up 30"),
+        (Some(0), "station 4 number 10 home 20 up 0"),
+        (None, "station 4 number 10 home 20 up -"),
+    ];
+    for (up, told) in cases {
+        let line = Line::Station {
+            station: 4,
+            number: 10,
+            home: 20,
+            up,
+        };
+        assert_eq!(rt; line.to_string(rt.alloc())?.as_str(), told);
+    }
+    Ok(())
+}
+
+#[test]
+fn a_line_shows_the_bytes_of_a_sheet(rt: HostRuntime) -> Result<(), Fail> {
+    let cases: [(&[u8], &str); 3] = [
+        (&[1, 0, 0, 0, 0], "sheet 5 bytes: 01 00 00 00 00"),
+        (&[0xff, 0x0a], "sheet 2 bytes: ff 0a"),
+        (&[], "sheet 0 bytes:"),
+    ];
+    for (bytes, told) in cases {
+        assert_eq!(rt; Line::Sheet { bytes }.to_string(rt.alloc())?.as_str(), told);
+    }
+    Ok(())
+}

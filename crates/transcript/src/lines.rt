@@ -1,7 +1,7 @@
 //! The lines of the walkthrough, without their ends.
 
 ghost use Rattle.std.specs.Prelude.{Some};
-ghost use Rattle.transcript.specs.Wording.{listed, told};
+ghost use Rattle.transcript.specs.Wording.{in_hexadecimal, listed, told, up_or_dash};
 
 use refusals::Refusal;
 use std::fmt;
@@ -22,6 +22,22 @@ pub enum Line<'a> {
     },
     /// `lawful: N stations, K links`, or the line of the refusal
     Verdict(Result<Extent, Refusal>),
+    /// `removed S with D left`
+    Removed {
+        station: usize,
+        left: usize,
+    },
+    /// `station S number K home H up U`, or `-` where there is no up
+    Station {
+        station: usize,
+        number: u16,
+        home: u16,
+        up: Option<u16>,
+    },
+    /// `sheet L bytes: 01 0a ff`
+    Sheet {
+        bytes: &'a [u8],
+    },
 }
 
 impl fmt::Display for Line<'_> {
@@ -43,6 +59,21 @@ impl fmt::Display for Line<'_> {
                 write!(f, "lawful: {stations} stations, {links} links")
             }
             Line::Verdict(Err(refusal)) => write!(f, "{refusal}"),
+            Line::Removed { station, left } => write!(f, "removed {station} with {left} left"),
+            Line::Station {
+                station,
+                number,
+                home,
+                up,
+            } => {
+                let up = Up(up);
+                write!(f, "station {station} number {number} home {home} up {up}")
+            }
+            Line::Sheet { bytes } => {
+                let count = bytes.len();
+                let digits = Hexadecimal(bytes);
+                write!(f, "sheet {count} bytes:{digits}")
+            }
         }
     }
 }
@@ -57,6 +88,37 @@ impl fmt::Display for Stations<'_> {
     fn fmt<W: fmt::Write>(&self, f: &mut fmt::Formatter<W>) -> fmt::Result {
         for t in self.0 {
             write!(f, " {t}")?;
+        }
+        Ok(())
+    }
+}
+
+/// A station's up, or `-` where it has none.
+#[derive(Clone, Copy)]
+struct Up(Option<u16>);
+
+impl fmt::Display for Up {
+    ghost output = { λ up. Some (up_or_dash up.0) };
+
+    fn fmt<W: fmt::Write>(&self, f: &mut fmt::Formatter<W>) -> fmt::Result {
+        match self.0 {
+            Some(up) => write!(f, "{up}"),
+            None => write!(f, "-"),
+        }
+    }
+}
+
+/// Bytes, each after a space, by two hexadecimal digits.
+#[derive(Clone, Copy)]
+struct Hexadecimal<'a>(&'a [u8]);
+
+impl fmt::Display for Hexadecimal<'_> {
+    ghost output = { λ bytes. Some (in_hexadecimal bytes.0.now) };
+
+    #[tactic(auto, using(std::proofs::lemmas::Grind::common_steps, std::proofs::lemmas::Fmt::hex_byte))]
+    fn fmt<W: fmt::Write>(&self, f: &mut fmt::Formatter<W>) -> fmt::Result {
+        for &byte in self.0 {
+            write!(f, " {byte:02x}")?;
         }
         Ok(())
     }

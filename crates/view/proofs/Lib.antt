@@ -4,3 +4,8 @@ pub mod Listings
 pub mod Lower
 pub mod Rows
 pub mod Theorems
+pub mod Joining
+pub mod Written
+pub mod Levels
+pub mod Settled
+pub mod Descent

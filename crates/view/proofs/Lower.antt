@@ -1,11 +1,11 @@
--- The neighbours of a station that are below it, counted along its row.
+-- The neighbours of a station, and those that are below it, counted along its row.
 use Rattle.std.proofs.Common.{◌≡◌, ℕ, ◌^◌, ◌<◌, ◌≤◌, ltb, List, map, length, filter, sum, arith}
 use Rattle.std.specs.List.{range_with_len}
 use Rattle.std.proofs.lemmas.List.Sums.{length-filter}
 use Rattle.cores.specs.Counting.{bit, count, times}
 use Rattle.cores.specs.Site.{Site}
 use Rattle.cores.proofs.Counts.{count_le}
-use Rattle.cores.proofs.Sums.{total_same, total_le, total_listed, count_total, entries_below}
+use Rattle.cores.proofs.Sums.{total_same, total_le, total_listed, count_total, entries_below, entries_all}
 use Rattle.view.specs.Rows.{Faithful}
 
 -- a row names each neighbour once, so its entries below s are the links to lower stations
@@ -26,4 +26,17 @@ few_lower g n h =
       arith,
       total_listed n (λ s. count s (g.linked s)),
       total_le n 512 (λ s. count s (g.linked s)) (λ s l. omega (arith, count_le s (g.linked s))),
+    )
+
+-- a row has as many entries as the station has neighbours
+pub row_length : (g : Site) (row : ℕ → List ℕ) → Faithful g row → (s : ℕ) → length (row s) ≡ count g.size (g.linked s)
+unfolding bit
+row_length g row law s =
+    let on_site : (t : ℕ) → 0 < times t (row s) → t < g.size = λ t h. let once = law.once s t in (law.lawful.inside s t (grind arith)).1 in
+    omega (
+      arith,
+      entries_all g.size (row s) on_site,
+      entries_below g.size (row s),
+      count_total g.size (g.linked s),
+      total_same g.size (λ t. times t (row s)) (λ t. bit (g.linked s t)) (λ t h. law.once s t),
     )

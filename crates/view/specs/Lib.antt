@@ -1,9 +1,13 @@
 pub mod Rows
 pub mod Neighbours
 pub mod Answers
+pub mod Ups
 pub mod Listing
 pub mod Shown
 pub mod Checked
 pub mod Extents
 pub mod Tables
+pub mod Forest
 pub mod Laws
+pub mod Components
+pub mod Settling

@@ -8,6 +8,7 @@ ghost use Rattle.view.specs.Rows.{Faithful};
 ghost use Rattle.view.specs.Neighbours.{left};
 
 pub mod counts;
+pub mod forest;
 pub mod laws;
 mod lent;
 pub mod links;
@@ -16,6 +17,9 @@ mod neighbours;
 
 pub use neighbours::Neighbours;
 pub use refusals::{Refusal, TableFault};
+
+/// In a table of ups: this station has no up.
+pub const NO_UP: u16 = 65_535;
 
 /// Stations that hear one another. A view means a site, and answers by it.
 pub trait View {

@@ -2,6 +2,8 @@
 #![tactic(auto)]
 
 #[cfg(test)]
+mod forest;
+#[cfg(test)]
 mod listed;
 #[cfg(test)]
 mod refusal_table;

@@ -1,4 +1,4 @@
-//! Reads a table of neighbours from standard input, judges it, and tells what it finds line by line.
+//! Reads a table of neighbours from standard input, judges it, draws it, and tells what it finds line by line.
 #![tactic(auto)]
 
 ghost use Rattle.std.specs.Prelude.{◌≡◌, IfOk};
@@ -7,12 +7,50 @@ ghost use Rattle.tables.specs.Answered.{listing_of};
 ghost use Rattle.view.specs.Extents.{measured};
 ghost use Rattle.walkthrough.specs.Ending.{status_of};
 
+use drawer::Removal;
 use std::io::Read;
 use std::process::ExitCode;
 use tables::{Table, Unread};
 use transcript::Line;
+use view::listed::Listed;
+use view::{NO_UP, View};
 
-/// Tells the table as it was read, and then the verdict on it.
+/// Tells what a sheet says of each station, and then its bytes.
+fn tell_sheet(rt: &impl Print, sheet: &[u8]) -> anyhow::Result<()> {
+    let mut numbers = [0; 512];
+    let mut homes = [0; 512];
+    let mut ups = [0; 512];
+    let mut order = [0; 512];
+    let stations = sheet::read(sheet, &mut numbers, &mut homes, &mut ups, &mut order)?;
+    for station in 0..stations {
+        let up = ups[station];
+        rt.println(Line::Station {
+            station,
+            number: numbers[station],
+            home: homes[station],
+            up: (up != NO_UP).then_some(up),
+        })?;
+    }
+    rt.println(Line::Sheet { bytes: sheet })?;
+    Ok(())
+}
+
+/// Tells how a view is drawn: station by station as they are removed, and then the sheet.
+fn tell_drawn(rt: &impl Print, view: &impl View) -> anyhow::Result<()> {
+    let mut removals = [Removal::default(); 512];
+    let stations = drawer::removals(view, &mut removals)?;
+    for removal in &removals[..stations] {
+        rt.println(Line::Removed {
+            station: removal.station,
+            left: removal.left,
+        })?;
+    }
+    let mut buffer = [0; sheet::LONGEST];
+    let length = drawer::draw(view, &mut buffer)?;
+    tell_sheet(rt, &buffer[..length])
+}
+
+/// Tells the table as it was read, then the verdict on it, and then how a lawful one is drawn.
 fn tell(rt: &impl Print, table: &Table) -> anyhow::Result<ExitCode>
     ensures { IfOk result (λ code. exit_status code ≡ status_of (measured (listing_of table.now))) }
 {
@@ -30,6 +68,9 @@ fn tell(rt: &impl Print, table: &Table) -> anyhow::Result<ExitCode>
     }
     let verdict = listing.measure();
     rt.println(Line::Verdict(verdict))?;
+    if verdict.is_ok() {
+        tell_drawn(rt, &Listed::open(listing))?;
+    }
     Ok(verdict.map_or(ExitCode::FAILURE, |_| ExitCode::SUCCESS))
 }
 

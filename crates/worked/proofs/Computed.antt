@@ -4,7 +4,7 @@ use Rattle.cores.specs.Counting.{bit, count, all, some, times, holds, lowest}
 use Rattle.cores.specs.Site.{Lawful, laid_out}
 use Rattle.cores.specs.Numbers.{hears, without}
 use Rattle.cores.specs.Forest.{reaches}
-use Rattle.cores.specs.Drawing.{has_fewest, next, removals, drawn}
+use Rattle.cores.specs.Drawing.{has_fewest, next, removed, drawn}
 use Rattle.cores.specs.Orders.{falls, after, at_fault}
 use Rattle.cores.specs.Links.{ends, joined, parted}
 use Rattle.cores.proofs.Links.{link_lawful}
@@ -37,7 +37,7 @@ bridge_lawful = all_lawful (laid_out 9) (laid_out_lawful 9) _ refl
 
 -- all plans at once, as what is unfolded is the same for each
 pub plans : OneStation × EightStations × TwoCliquesAndABridge × OneLinkMore × OneLinkLess
-unfolding bit count all some times holds lowest hears without reaches has_fewest next removals drawn falls after at_fault ends joined parted joined_all core_by core_home_by home_by below_by up_by
+unfolding bit count all some times holds lowest hears without reaches has_fewest next removed drawn falls after at_fault ends joined parted joined_all core_by core_home_by home_by below_by up_by
 plans =
     let more = joined eight 5 7 in
     let less = parted eight 0 1 in

@@ -1,7 +1,7 @@
 use Rattle.std.proofs.Common.{take, arith}
 use Rattle.std.proofs.lemmas.Grind.{common_steps}
 use Rattle.std.proofs.lemmas.Simd.{map-map}
-use Rattle.sheet.specs.Calls.{up_in_table}
+use Rattle.view.specs.Ups.{up_in_table}
 use Rattle.sheet.proofs.unpacked.Unpacked.copy_to.Goals as goal
 
 pub returns-clause-ups : goal.returns-clause-ups

@@ -1,4 +1,4 @@
-use Rattle.sheet.specs.Calls.{up_in_table}
+use Rattle.view.specs.Ups.{up_in_table}
 use Rattle.sheet.proofs.Runs.{Filled}
 use Rattle.sheet.proofs.unpacked.Unpacked.copy_to.Given as goal
 

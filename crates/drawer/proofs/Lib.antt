@@ -1,0 +1,7 @@
+mod Least
+mod Keyed
+mod Counted
+mod Peels
+mod Peaks
+mod Written
+mod Drawn

@@ -1,0 +1,3 @@
+pub mod Removals
+pub mod Calls
+pub mod Peeling
