@@ -7,11 +7,13 @@ pub mod laws;
 mod numbering;
 mod ordering;
 mod peeling;
+mod rehearsing;
 mod remaining;
 mod removal;
 
 pub use drawing::draw;
 pub use numbering::numbers;
 pub use peeling::removals;
+pub use rehearsing::draw_without;
 pub use removal::Removal;
 pub use view::Refusal;

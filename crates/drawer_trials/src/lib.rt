@@ -5,3 +5,5 @@
 mod large;
 #[cfg(test)]
 mod small;
+#[cfg(test)]
+mod struck;

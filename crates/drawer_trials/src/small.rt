@@ -6,10 +6,10 @@ use view::listed::{Listed, Listing};
 /// What stands in a table or a buffer before a call, and stays behind what it writes.
 const OLD: u16 = 7_777;
 
-const OLD_BYTE: u8 = 0xee;
+pub(crate) const OLD_BYTE: u8 = 0xee;
 
 /// A group of four, a group of three linked to it, and a last one.
-const EIGHT: Listing<'static, 'static> = Listing {
+pub(crate) const EIGHT: Listing<'static, 'static> = Listing {
     starts: &[0, 3, 6, 9, 13, 16, 18, 21, 22],
     ends: &[
         1, 2, 3, 0, 2, 3, 0, 1, 3, 0, 1, 2, 4, 3, 5, 6, 4, 6, 4, 5, 7, 6,
@@ -45,7 +45,7 @@ const NONE: Listing<'static, 'static> = Listing {
 };
 
 /// The sheet of the eight stations.
-const EIGHT_SHEET: &[u8] = &[
+pub(crate) const EIGHT_SHEET: &[u8] = &[
     0x08, 0x00, 0x05, 0x03, 0x00, 0x04, 0x00, 0x03, 0x03, 0x00, 0x00, 0x00, 0x03, 0x03, 0x00, 0x00,
     0x00, 0x03, 0x03, 0x00, 0x00, 0x00, 0x05, 0x02, 0x00, 0x07, 0x00, 0x03, 0x02, 0x00, 0x04, 0x00,
     0x03, 0x02, 0x00, 0x04, 0x00, 0x01, 0x01, 0x00, 0x07, 0x00, 0x05, 0x00, 0x06, 0x00, 0x04, 0x00,

@@ -43,6 +43,18 @@ fn a_line_tells_what_was_removed(rt: HostRuntime) -> Result<(), Fail> {
 }
 
 #[test]
+fn lines_tell_of_arguments(rt: HostRuntime) -> Result<(), Fail> {
+    let struck = Line::Struck { station: 30 };
+    assert_eq!(rt; struck.to_string(rt.alloc())?.as_str(), "struck 30");
+    let none = Line::NoStation { argument: 12 };
+    assert_eq!(rt;
+        none.to_string(rt.alloc())?.as_str(),
+        "argument 12: not a station"
+    );
+    Ok(())
+}
+
+#[test]
 fn a_line_tells_of_a_station(rt: HostRuntime) -> Result<(), Fail> {
     let cases: [(Option<u16>, &str); 3] = [
         (Some(30), "station 4 number 10 home 20 up 30"),

@@ -4,7 +4,7 @@ use Rattle.std.specs.Fmt.{digit_glyph}
 use Rattle.std.specs.List.{flat_map}
 use Rattle.refusals.specs.Refusals.{refusal_line}
 use Rattle.transcript.specs.declared.lines.Line.{Line}
-use Rattle.transcript.specs.declared.lines.Line.TheVariants.{Heading, Row, Verdict, Removed, Station, Sheet}
+use Rattle.transcript.specs.declared.lines.Line.TheVariants.{Heading, Row, Verdict, Struck, NoStation, Removed, Station, Sheet}
 
 -- ` a b c`: a space before each
 abbrev pub listed : List ℕ → List ℕ
@@ -24,12 +24,14 @@ abbrev pub in_hexadecimal : List ℕ → List ℕ
 in_hexadecimal bytes = flat_map (λ byte. codes " " ++ hexadecimal byte) bytes
 
 -- `table of N stations, E ends`, `row S: a b c`, `lawful: N stations, K links`, or the line of a refusal;
--- `removed S with D left`, `station S number K home H up U`, `sheet L bytes: 01 0a ff`
+-- `struck S`, `argument A: not a station`, `removed S with D left`, `station S number K home H up U`, `sheet L bytes: 01 0a ff`
 abbrev pub told : Line → List ℕ
 told (Heading stations ends) = codes "table of " ++ (decimal stations ++ (codes " stations, " ++ (decimal ends ++ codes " ends")))
 told (Row station neighbours) = codes "row " ++ (decimal station ++ (codes ":" ++ listed neighbours.now))
 told (Verdict (Ok extent)) = codes "lawful: " ++ (decimal extent.stations ++ (codes " stations, " ++ (decimal extent.links ++ codes " links")))
 told (Verdict (Err refusal)) = refusal_line refusal
+told (Struck station) = codes "struck " ++ decimal station
+told (NoStation argument) = codes "argument " ++ (decimal argument ++ codes ": not a station")
 told (Removed station left) = codes "removed " ++ (decimal station ++ (codes " with " ++ (decimal left ++ codes " left")))
 told (Station station number home up) = codes "station " ++ (decimal station ++ (codes " number " ++ (decimal number ++ (codes " home " ++ (decimal home ++ (codes " up " ++ up_or_dash up))))))
 told (Sheet bytes) = codes "sheet " ++ (decimal (length bytes.now) ++ (codes " bytes:" ++ in_hexadecimal bytes.now))

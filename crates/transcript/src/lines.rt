@@ -22,6 +22,14 @@ pub enum Line<'a> {
     },
     /// `lawful: N stations, K links`, or the line of the refusal
     Verdict(Result<Extent, Refusal>),
+    /// `struck S`
+    Struck {
+        station: usize,
+    },
+    /// `argument A: not a station`, counted from 1
+    NoStation {
+        argument: usize,
+    },
     /// `removed S with D left`
     Removed {
         station: usize,
@@ -59,6 +67,8 @@ impl fmt::Display for Line<'_> {
                 write!(f, "lawful: {stations} stations, {links} links")
             }
             Line::Verdict(Err(refusal)) => write!(f, "{refusal}"),
+            Line::Struck { station } => write!(f, "struck {station}"),
+            Line::NoStation { argument } => write!(f, "argument {argument}: not a station"),
             Line::Removed { station, left } => write!(f, "removed {station} with {left} left"),
             Line::Station {
                 station,

@@ -1,8 +1,14 @@
 pub mod Admitted
+pub mod Bits
 pub mod Checks
+pub mod Filtered
+pub mod Grids
 pub mod Listings
 pub mod Lower
+pub mod Marks
+pub mod Ranges
 pub mod Rows
+pub mod Striking
 pub mod Theorems
 pub mod Joining
 pub mod Written

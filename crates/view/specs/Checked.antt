@@ -1,5 +1,5 @@
--- The verdict on two lists, and the site that they open as. Assumes nothing.
-use Rattle.std.specs.Prelude.{ℕ, cond, ◌&&◌, is_ok, Some, None, Ok, Err, Option, Result}
+-- The verdict on a table of links, and the site that it opens as; for two lists. Assumes nothing.
+use Rattle.std.specs.Prelude.{ℕ, Bool, cond, ◌&&◌, is_ok, Some, None, Ok, Err, Option, Result}
 use Rattle.std.specs.Result.{result_map_both}
 use Rattle.refusals.specs.declared.TableFault.{TableFault}
 use Rattle.refusals.specs.declared.TableFault.TheVariants.{Shape, Row}
@@ -14,13 +14,25 @@ unless_bad None = Ok tt
 unless_bad (Some s) = Err (Row s)
 
 -- the first fault: of the station count and the shape, then the lowest bad row
+abbrev pub first_fault : Bool → Option ℕ → Result (Unit {0}) TableFault
+first_fault well_shaped bad = cond well_shaped (unless_bad bad) (Err Shape)
+
+-- a table with a fault is refused for it
+abbrev pub refused : Result (Unit {0}) TableFault → Result (Unit {0}) Refusal
+refused verdict = result_map_both (λ u. u) UnlawfulTable verdict
+
+-- a table that passes means its site, another the site with no stations
+abbrev pub site_if : Result (Unit {0}) Refusal → Site → Site
+site_if verdict g = cond (is_ok verdict) g no_stations
+
+-- the first fault of two lists
 abbrev pub judged : Lists → Result (Unit {0}) TableFault
-judged l = cond (sized (stations l) && shaped l) (unless_bad (lowest_bad_row l)) (Err Shape)
+judged l = first_fault (sized (stations l) && shaped l) (lowest_bad_row l)
 
--- the verdict: a table with a fault is refused for it
+-- the verdict on them
 abbrev pub checked : Lists → Result (Unit {0}) Refusal
-checked l = result_map_both (λ u. u) UnlawfulTable (judged l)
+checked l = refused (judged l)
 
--- what two lists mean: their site where they pass the check, else the site with no stations
+-- and what they mean
 abbrev pub opened : Lists → Site
-opened l = cond (is_ok (checked l)) (site_of l) no_stations
+opened l = site_if (checked l) (site_of l)

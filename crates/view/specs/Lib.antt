@@ -8,6 +8,12 @@ pub mod Checked
 pub mod Extents
 pub mod Tables
 pub mod Forest
+pub mod Service
+pub mod Struck
+pub mod Bits
+pub mod Grid
+pub mod GridChecked
+pub mod GridTables
 pub mod Laws
 pub mod Components
 pub mod Settling

@@ -1,5 +1,6 @@
 -- What a view shows of a site: a row of neighbours for each station. Assumes nothing.
-use Rattle.std.specs.Prelude.{◌≡◌, ℕ, ◌+◌, ◌<◌, List, length, slice_index}
+use Rattle.std.specs.Prelude.{◌≡◌, ℕ, ◌+◌, ◌<◌, List, length, filter, slice_index}
+use Rattle.std.specs.List.{range_with_len}
 use Rattle.cores.specs.Counting.{bit, times}
 use Rattle.cores.specs.Site.{Site, Lawful}
 
@@ -12,3 +13,7 @@ pub record Faithful (g : Site) (row : ℕ → List ℕ) : Type 0 where
   pub lawful : Lawful g
   pub once : (s t : ℕ) → times t (row s) ≡ bit (g.linked s t)
   pub rising : (s : ℕ) → Rising (row s)
+
+-- the neighbours of a station by the links alone, rising
+abbrev pub each_neighbour : Site → ℕ → List ℕ
+each_neighbour g s = filter (g.linked s) (range_with_len 0 g.size)

@@ -29,12 +29,16 @@ GoodRow l s = (place : ℕ) → place < length (row l s) → Entry l s place (sl
 abbrev pub WellShaped : Lists → Type 0
 WellShaped l = (1 ≤ stations l) × (stations l ≤ 512) × Shape l
 
--- A fault in words: the shape, or the lowest row that is not good.
-abbrev pub Fault : Lists → TableFault → Type 0
-Fault l BadShape = WellShaped l → ⊥
-Fault l (BadRow r) = WellShaped l × (r < stations l) × (GoodRow l r → ⊥) × ((s : ℕ) → s < r → GoodRow l s)
+-- A fault in words: of the shape, or of the lowest row that is not good.
+abbrev pub FaultBy : Type 0 → ℕ → (ℕ → Type 0) → TableFault → Type 0
+FaultBy Shaped n Good BadShape = Shaped → ⊥
+FaultBy Shaped n Good (BadRow r) = Shaped × (r < n) × (Good r → ⊥) × ((s : ℕ) → s < r → Good s)
 
 -- A verdict in words: a table passes if it is well shaped and every row is good, and else is refused for a fault that it has.
+abbrev pub VerdictBy : Type 0 → ℕ → (ℕ → Type 0) → Result (Unit {0}) Refusal → Type 0
+VerdictBy Shaped n Good (Ok u) = Shaped × ((s : ℕ) → s < n → Good s)
+VerdictBy Shaped n Good (Err e) = (fault : TableFault) × (e ≡ UnlawfulTable fault) × FaultBy Shaped n Good fault
+
+-- the verdict on two lists, in words
 abbrev pub Verdict : Lists → Result (Unit {0}) Refusal → Type 0
-Verdict l (Ok u) = WellShaped l × ((s : ℕ) → s < stations l → GoodRow l s)
-Verdict l (Err e) = (fault : TableFault) × (e ≡ UnlawfulTable fault) × Fault l fault
+Verdict l = VerdictBy (WellShaped l) (stations l) (GoodRow l)

@@ -14,6 +14,10 @@ mod lent;
 pub mod links;
 pub mod listed;
 mod neighbours;
+pub mod rehearsal;
+pub mod service;
+pub mod square;
+pub mod struck;
 
 pub use neighbours::Neighbours;
 pub use refusals::{Refusal, TableFault};

@@ -1,6 +1,6 @@
 //! Homes and ups by a table of numbers.
 
-use super::listed::EIGHT;
+use crate::sites::EIGHT;
 use view::Refusal;
 use view::forest::homes_and_ups;
 use view::listed::{Listed, Listing};

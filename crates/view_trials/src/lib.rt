@@ -7,3 +7,13 @@ mod forest;
 mod listed;
 #[cfg(test)]
 mod refusal_table;
+#[cfg(test)]
+mod rehearsals;
+#[cfg(test)]
+mod service;
+#[cfg(test)]
+mod sites;
+#[cfg(test)]
+mod square;
+#[cfg(test)]
+mod struck;

@@ -1,16 +1,9 @@
 //! Tables of links, judged and opened.
 
+use crate::sites::EIGHT;
 use view::links::count_links;
 use view::listed::{Extent, Listed, Listing};
 use view::{Refusal, View};
-
-/// The site of eight stations: a group of four, a group of three linked to it, and a last one.
-pub(super) const EIGHT: Listing<'static, 'static> = Listing {
-    starts: &[0, 3, 6, 9, 13, 16, 18, 21, 22],
-    ends: &[
-        1, 2, 3, 0, 2, 3, 0, 1, 3, 0, 1, 2, 4, 3, 5, 6, 4, 6, 4, 5, 7, 6,
-    ],
-};
 
 const SHAPE: Option<usize> = Some(65_535);
 

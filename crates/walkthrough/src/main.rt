@@ -5,14 +5,19 @@ ghost use Rattle.std.specs.Prelude.{◌≡◌, IfOk};
 ghost use Rattle.std.specs.Process.{exit_status};
 ghost use Rattle.tables.specs.Answered.{listing_of};
 ghost use Rattle.view.specs.Extents.{measured};
+ghost use Rattle.text.specs.Texts.{decimal_of};
+ghost use Rattle.walkthrough.specs.Arguments.{struck_by, strike_answer};
 ghost use Rattle.walkthrough.specs.Ending.{status_of};
 
 use drawer::Removal;
 use std::io::Read;
 use std::process::ExitCode;
-use tables::{Table, Unread};
+use std::{env, fmt};
+use tables::Table;
 use transcript::Line;
 use view::listed::Listed;
+use view::service::ServiceList;
+use view::struck::Struck;
 use view::{NO_UP, View};
 
 /// Tells what a sheet says of each station, and then its bytes.
@@ -50,8 +55,27 @@ fn tell_drawn(rt: &impl Print, view: &impl View) -> anyhow::Result<()> {
     tell_sheet(rt, &buffer[..length])
 }
 
-/// Tells the table as it was read, then the verdict on it, and then how a lawful one is drawn.
-fn tell(rt: &impl Print, table: &Table) -> anyhow::Result<ExitCode>
+/// Marks the station that an argument names, or answers the line that tells why it cannot.
+fn strike(list: &mut ServiceList, argument: usize, word: &[u8]) -> Result<(), Line<'static>>
+    ensures list { list.new ≡ struck_by (decimal_of 5 word.now) list.old }
+    ensures answer { result ≡ strike_answer argument (decimal_of 5 word.now) }
+{
+    let station = text::decimal(word, 5).ok_or(Line::NoStation { argument })?;
+    list.mark(usize::from(station))
+        .map_err(|refusal| Line::Verdict(Err(refusal)))
+}
+
+/// Tells which stations are struck.
+fn tell_struck(rt: &impl Print, list: &ServiceList) -> anyhow::Result<()> {
+    for station in (0..512).filter(|station| list.is_marked(*station)) {
+        rt.println(Line::Struck { station })?;
+    }
+    Ok(())
+}
+
+/// Tells the table as it was read, then the verdict on it, and then how a lawful one is drawn without the stations that
+/// a list marks.
+fn tell(rt: &impl Print, table: &Table, list: &ServiceList) -> anyhow::Result<ExitCode>
     ensures { IfOk result (λ code. exit_status code ≡ status_of (measured (listing_of table.now))) }
 {
     let listing = table.listing();
@@ -69,27 +93,35 @@ fn tell(rt: &impl Print, table: &Table) -> anyhow::Result<ExitCode>
     let verdict = listing.measure();
     rt.println(Line::Verdict(verdict))?;
     if verdict.is_ok() {
-        tell_drawn(rt, &Listed::open(listing))?;
+        tell_struck(rt, list)?;
+        tell_drawn(rt, &Struck::new(Listed::open(listing), list))?;
     }
     Ok(verdict.map_or(ExitCode::FAILURE, |_| ExitCode::SUCCESS))
 }
 
-/// Tells why there is no table.
-fn tell_unread(rt: &impl Print, unread: Unread) -> anyhow::Result<ExitCode>
+/// Tells why nothing can be told of a table.
+fn tell_why(rt: &impl Print, why: impl fmt::Display + Drop) -> anyhow::Result<ExitCode>
     ensures { IfOk result (λ code. exit_status code ≡ 1) }
 {
-    rt.println(unread)?;
+    rt.println(why)?;
     Ok(ExitCode::FAILURE)
 }
 
-/// Reads standard input to its end and tells what stands there.
+/// Reads which stations to strike from the arguments, and then a table from standard input, to its end, and tells what
+/// stands there.
 fn run(rt: &HostRuntime) -> anyhow::Result<ExitCode> {
+    let mut list = ServiceList::new();
+    for (argument, word) in env::args(rt)?.enumerate().skip(1) {
+        if let Err(line) = strike(&mut list, argument, word.as_bytes()) {
+            return tell_why(rt, line);
+        }
+    }
     let mut text = Vec::new(rt.alloc());
     // one byte more than a table may have, so that a longer one is seen
     rt.stdin().take(1_000_001).read_to_end(&mut text)?;
     match tables::read(rt.alloc(), text.as_slice()) {
-        Ok(table) => tell(rt, &table),
-        Err(unread) => tell_unread(rt, unread),
+        Ok(table) => tell(rt, &table, &list),
+        Err(unread) => tell_why(rt, unread),
     }
 }
 

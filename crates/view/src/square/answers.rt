@@ -1,0 +1,28 @@
+//! The three questions, answered by the rows of bits.
+
+ghost use Rattle.view.specs.Rows.{each_neighbour};
+ghost use Rattle.view.specs.Grid.{bitmap, site_of};
+
+use super::Square;
+use super::bits::{count_ones, nth_one};
+use crate::View;
+
+impl View for Square<'_> {
+    ghost site = { λ v. site_of (bitmap v.grid) };
+
+    ghost row = { λ v. each_neighbour (site_of (bitmap v.grid)) };
+
+    ghost faithful = { λ v. v.faithful };
+
+    fn stations(&self) -> usize {
+        self.grid.stations
+    }
+
+    fn degree(&self, s: usize) -> usize {
+        count_ones(self.grid.row(s))
+    }
+
+    fn neighbour(&self, s: usize, place: usize) -> Option<usize> {
+        nth_one(self.grid.row(s), place)
+    }
+}

@@ -1,0 +1,47 @@
+//! The bits that are set in a row of bytes, counted a byte at a time.
+
+ghost use Rattle.std.specs.Prelude.{◌≡◌, ◌<◌, ◌≤◌, length};
+ghost use Rattle.std.specs.List.{slice_get};
+ghost use Rattle.view.specs.Bits.{bit_set, ones_of, ones_from};
+
+/// Whether a bit of a byte is set.
+#[tactic(auto, using(std::proofs::lemmas::Nat::Bits::shr_and_one))]
+pub(super) fn is_set(byte: u8, bit: usize) -> bool
+    requires { bit < 8 }
+    ensures { result ≡ bit_set byte bit }
+{
+    byte >> bit & 1 == 1
+}
+
+/// Which bit of a byte is set when so many lower ones are.
+fn nth_in_byte(byte: u8, place: usize) -> Option<usize>
+    ensures { result ≡ slice_get (ones_of byte) place }
+{
+    (0..8).filter(|bit| is_set(byte, *bit)).nth(place)
+}
+
+/// How many bits of a row are set.
+pub(super) fn count_ones(row: &[u8]) -> usize
+    requires { length row.now ≤ 64 }
+    ensures { result ≡ length (ones_from 0 row.now) }
+{
+    // a cast, as Rust has no `From<u32>` for `usize`
+    row.iter().map(|byte| byte.count_ones() as usize).sum()
+}
+
+/// Which bit of a row is set when so many lower ones are.
+pub(super) fn nth_one(row: &[u8], place: usize) -> Option<usize>
+    requires { length row.now ≤ 64 }
+    ensures { result ≡ slice_get (ones_from 0 row.now) place }
+{
+    let mut left = place;
+    for (index, byte) in row.iter().enumerate() {
+        let ones = byte.count_ones() as usize;
+        if left < ones {
+            let bit = nth_in_byte(*byte, left)?;
+            return Some(8 * index + bit);
+        }
+        left -= ones;
+    }
+    None
+}
