@@ -9,6 +9,8 @@ pub mod Extents
 pub mod Tables
 pub mod Forest
 pub mod Service
+pub mod Rehearsed
+pub mod Cut
 pub mod Struck
 pub mod Bits
 pub mod Grid

@@ -2,6 +2,7 @@
 
 ghost use Rattle.std.specs.Prelude.{◌≡◌, true};
 ghost use Rattle.view.specs.Service.{is_marked as marked, with_mark};
+ghost use Rattle.view.specs.Rehearsed.{lent, rehearsed, station as station_of, was_marked, given_back};
 
 use crate::service::ServiceList;
 
@@ -16,10 +17,10 @@ pub struct Rehearsal<'a> {
 impl<'a> Rehearsal<'a> {
     /// Begins a rehearsal of a station.
     pub fn begin(list: &'a mut ServiceList, station: usize) -> Rehearsal<'a>
-        ensures lent { result.list.ghost_name ≡ list.entry.ghost_name }
-        ensures list { result.list.now ≡ with_mark list.old station true }
-        ensures station { result.station ≡ station }
-        ensures before { result.before ≡ marked list.old station }
+        ensures lent { lent result ≡ list.entry.ghost_name }
+        ensures list { rehearsed result ≡ with_mark list.old station true }
+        ensures station { station_of result ≡ station }
+        ensures before { was_marked result ≡ marked list.old station }
     {
         let before = list.is_marked(station);
         // refused only where there is no mark
@@ -33,7 +34,7 @@ impl<'a> Rehearsal<'a> {
 
     /// The list while the rehearsal lasts.
     pub fn list(&self) -> ServiceList
-        ensures { result ≡ self.now.list.now }
+        ensures { result ≡ rehearsed self.now }
     {
         *self.list
     }
@@ -41,7 +42,7 @@ impl<'a> Rehearsal<'a> {
 
 impl Drop for Rehearsal<'_> {
     fn drop(self)
-        ensures { self.exit.0.now ≡ with_mark self.entry.list.now self.entry.station self.entry.before }
+        ensures { self.exit.0.now ≡ given_back self.entry }
     {
         let Rehearsal {
             list,

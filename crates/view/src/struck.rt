@@ -34,9 +34,11 @@ impl<V: View> Struck<V> {
 }
 
 impl<V: View> View for Struck<V> {
-    ghost site = { λ v. struck_site (marked v.list) (V.View.site v.below) };
+    ghost use Rattle.view.specs.Cut.{struck, below};
 
-    ghost row = { λ v. struck_row (marked v.list) (V.View.row v.below) };
+    ghost site = { λ v. struck_site (struck v) (V.View.site (below v)) };
+
+    ghost row = { λ v. struck_row (struck v) (V.View.row (below v)) };
 
     ghost faithful = { λ v. v.faithful };
 

@@ -7,8 +7,7 @@ mod forest;
 mod listed;
 #[cfg(test)]
 mod refusal_table;
-#[cfg(test)]
-mod rehearsals;
+pub mod rehearsals;
 #[cfg(test)]
 mod service;
 #[cfg(test)]

@@ -1,9 +1,10 @@
 //! Callers that rehearse: however they end, the service list is as it was.
 
-ghost use Rattle.std.specs.Prelude.{◌≡◌, true};
+ghost use Rattle.std.specs.Prelude.{◌≡◌, ◌&&◌, true, not, nat_lt, length};
 ghost use Rattle.view.specs.Answers.{links_answer};
 ghost use Rattle.view.specs.Service.{is_marked, with_mark};
-ghost use Rattle.view.specs.Struck.{struck_site};
+ghost use Rattle.view.specs.Struck.{struck_site, struck_row};
+ghost use Rattle.view_trials.specs.Alike.{alike};
 
 use view::links::count_links;
 use view::rehearsal::Rehearsal;
@@ -34,7 +35,10 @@ pub fn weigh_alike<V: View>(
     a: usize,
     b: usize,
 ) -> Result<bool, Refusal>
-    ensures { list.new ≡ list.old }
+    ensures list { list.new ≡ list.old }
+    ensures answer { result ≡ alike
+        (links_answer (struck_site (is_marked (with_mark list.old a true)) (V.View.site view.now)))
+        (links_answer (struck_site (is_marked (with_mark list.old b true)) (V.View.site view.now))) }
 {
     let without_a = {
         let rehearsal = Rehearsal::begin(list, a);
@@ -53,7 +57,9 @@ pub fn is_heard_without<V: View>(
     station: usize,
     struck: usize,
 ) -> bool
-    ensures { list.new ≡ list.old }
+    ensures list { list.new ≡ list.old }
+    ensures answer { let marks = is_marked (with_mark list.old struck true) in
+        result ≡ (not (marks station) && nat_lt 0 (length (struck_row marks (V.View.row view.now) station))) }
 {
     let rehearsal = Rehearsal::begin(list, struck);
     if rehearsal.list().is_marked(station) {

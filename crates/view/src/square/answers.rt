@@ -1,16 +1,17 @@
 //! The three questions, answered by the rows of bits.
 
 ghost use Rattle.view.specs.Rows.{each_neighbour};
-ghost use Rattle.view.specs.Grid.{bitmap, site_of};
+ghost use Rattle.view.specs.Grid.{site_of};
+ghost use Rattle.view.specs.Shown.{shown_bits};
 
 use super::Square;
 use super::bits::{count_ones, nth_one};
 use crate::View;
 
 impl View for Square<'_> {
-    ghost site = { λ v. site_of (bitmap v.grid) };
+    ghost site = { λ v. site_of (shown_bits v) };
 
-    ghost row = { λ v. each_neighbour (site_of (bitmap v.grid)) };
+    ghost row = { λ v. each_neighbour (site_of (shown_bits v)) };
 
     ghost faithful = { λ v. v.faithful };
 
