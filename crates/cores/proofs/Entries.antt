@@ -42,6 +42,15 @@ times_at t [] k h e = absurd (omega arith)
 times_at t (x ∷ xs) zero h e = let first = times_cons t x xs in grind arith
 times_at t (x ∷ xs) (suc k) h e = omega (arith, times_cons t x xs, times_at t xs k (omega arith) e)
 
+-- what stands at most once has one place
+pub one_place : (t : ℕ) (xs : List ℕ) → times t xs ≤ 1 → (i j : ℕ) → i < length xs → j < length xs → get_or xs i 0 ≡ t → get_or xs j 0 ≡ t → i ≡ j
+unfolding bit
+one_place t [] once i j h k d e = absurd (omega arith)
+one_place t (x ∷ xs) once zero zero h k d e = refl
+one_place t (x ∷ xs) once zero (suc j) h k d e = let first = times_cons t x xs in let later = times_at t xs j (omega arith) e in absurd (grind arith)
+one_place t (x ∷ xs) once (suc i) zero h k d e = let first = times_cons t x xs in let later = times_at t xs i (omega arith) d in absurd (grind arith)
+one_place t (x ∷ xs) once (suc i) (suc j) h k d e = ap suc (one_place t xs (omega (arith, once, times_cons t x xs)) i j (omega arith) (omega arith) d e)
+
 -- holding
 pub holds_times : (xs : List ℕ) (t : ℕ) → holds xs t ≡ true → 0 < times t xs
 unfolding holds

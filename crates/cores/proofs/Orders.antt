@@ -104,7 +104,7 @@ after_rest s (t ∷ later) e = elim (cases_eq s t) [
 ]
 
 -- in an order that names nobody twice, it is what stands at later places
-after_place : (order : List ℕ) → ((t : ℕ) → times t order ≤ 1) → (i : ℕ) → i < length order → after (get_or order i 0) order ≡ drop (suc i) order
+pub after_place : (order : List ℕ) → ((t : ℕ) → times t order ≤ 1) → (i : ℕ) → i < length order → after (get_or order i 0) order ≡ drop (suc i) order
 unfolding bit
 after_place [] once i h = absurd (omega arith)
 after_place (t ∷ later) once zero h = after_first t t later refl

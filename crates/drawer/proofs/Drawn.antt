@@ -1,10 +1,9 @@
 -- The plan that is drawn, from its parts.
-use Rattle.std.proofs.Common.{◌≡◌, ℕ, zero, suc, ◌<◌, ◌≤◌, true, List, ◌++◌, length, map, get_or, take, drop, min, Ok, Result, sym, refl, ap, ◌∙◌, arith}
+use Rattle.std.proofs.Common.{◌≡◌, ℕ, zero, suc, ◌<◌, ◌≤◌, true, List, ◌++◌, length, map, get_or, take, drop, min, Ok, sym, refl, ap, ◌∙◌, arith}
 use Rattle.std.specs.List.{range_with_len}
 use Rattle.std.proofs.lemmas.List.{take_at, length-map, get_or-map, ext_get_or}
 use Rattle.std.proofs.lemmas.List.FromFn.{length-map-range_with_len, get_or-map-range_with_len, fill_by_all}
 use Rattle.std.proofs.lemmas.Bool.Decides.{nat_tests}
-use Rattle.refusals.specs.declared.Refusal.{Refusal}
 use Rattle.cores.specs.Site.{Site, Lawful, sized}
 use Rattle.cores.specs.Numbers.{number}
 use Rattle.cores.specs.Forest.{home, up}
@@ -15,6 +14,7 @@ use Rattle.view.specs.Answers.{counted, left_in}
 use Rattle.view.specs.Ups.{up_in_table}
 use Rattle.view.specs.Forest.{forest_by, forest_into}
 use Rattle.view.proofs.Admitted.{admitted, sized_within}
+use Rattle.view.proofs.Fronts.{front_left, homes_length, ups_length}
 use Rattle.sheet.specs.Calls.{plan_in, put_bytes}
 use Rattle.sheet.specs.Sites.{plan_of, sheet_of}
 use Rattle.sheet.proofs.CallLaws.{well_formed_is_put}
@@ -54,19 +54,6 @@ noted_order g n removals order old counted are is =
 -- the table that the numbers were noted in
 pub noted_numbers : (g : Site) (n : ℕ) (numbers old : List ℕ) → n ≡ g.size → numbers ≡ (plan_of g).numbers ++ drop g.size old → take n numbers ≡ (plan_of g).numbers
 noted_numbers g n numbers old counted is = ap (take n) is ∙ take_at (plan_of g).numbers (drop g.size old) n (numbers_length g ∙ sym counted)
-
--- the front of a table that a call wrote to
-front_left : {A : Type 0} (part : A → List ℕ) (outcome : Result A Refusal) (x : A) (n : ℕ) (table old : List ℕ) → outcome ≡ Ok x → length (part x) ≡ n → table ≡ left_in part outcome old
-    → take n table ≡ part x
-front_left part outcome x n table old accepted long is = rw (is, accepted) (take_at (part x) (drop (length (part x)) old) n long)
-
-homes_length : (g : Site) (numbers : List ℕ) → length (forest_by g numbers).homes ≡ g.size
-unfolding forest_by
-homes_length g numbers = length-map-range_with_len _ 0 g.size
-
-ups_length : (g : Site) (numbers : List ℕ) → length (map up_in_table (forest_by g numbers).ups) ≡ g.size
-unfolding forest_by
-ups_length g numbers = length-map (forest_by g numbers).ups up_in_table ∙ length-map-range_with_len _ 0 g.size
 
 -- the same values at the stations of a site make the same list
 same_values : {A : Type 0} (n : ℕ) (f h : ℕ → A) → ((s : ℕ) → s < n → f s ≡ h s) → map f (range_with_len 0 n) ≡ map h (range_with_len 0 n)

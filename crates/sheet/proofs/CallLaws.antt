@@ -53,10 +53,9 @@ meant_back : (o : Option ℕ) → ((u : ℕ) → o ≡ Some u → u < 65535) →
 meant_back None few = refl
 meant_back (Some u) few = let other : eqb u 65535 ≡ false = (let small = few u refl in grind (arith, nat_tests)) in rw other refl
 
--- the tables of a well-formed plan are put as its sheet, if there is room for it
-pub well_formed_is_put : (p : Plan) (room : ℕ) → WellFormed p
-    → put_bytes (plan_in p.numbers p.homes (map up_in_table p.ups) p.order) room ≡ with_room (length (encode p)) room (encode p)
-well_formed_is_put p room well =
+-- the tables of a well-formed plan hold that plan
+pub plan_in_tables : (p : Plan) → WellFormed p → plan_in p.numbers p.homes (map up_in_table p.ups) p.order ≡ p
+plan_in_tables p well =
     let few = sized_within (stations p) well.counted in
     let ups_back : map up_meant (map up_in_table p.ups) ≡ p.ups
     = ext_get_or None (map up_meant (map up_in_table p.ups)) p.ups (length-map (map up_in_table p.ups) up_meant ∙ length-map p.ups up_in_table) (λ k h.
@@ -65,8 +64,14 @@ well_formed_is_put p room well =
     get_or-map up_meant (map up_in_table p.ups) k 0 None (omega (arith, length-map p.ups up_in_table))
     ∙ ap up_meant (get_or-map up_in_table p.ups k None 0 on_list)
     ∙ meant_back (get_or p.ups k None) (λ u d. omega (arith, ((well.fits k on_site).up u d).0))) in
+    ap (λ ups. record { numbers = p.numbers; homes = p.homes; ups = ups; order = p.order }) ups_back
+
+-- so they are put as its sheet, if there is room for it
+pub well_formed_is_put : (p : Plan) (room : ℕ) → WellFormed p
+    → put_bytes (plan_in p.numbers p.homes (map up_in_table p.ups) p.order) room ≡ with_room (length (encode p)) room (encode p)
+well_formed_is_put p room well =
     let none = (well_formed_without_fault p well.counted well.lengths).1 well in
-    rw (ups_back, well.counted, well.lengths, none) refl
+    ap (λ q. put_bytes q room) (plan_in_tables p well) ∙ rw (well.counted, well.lengths, none) refl
 
 pub read_is_put_back : WhatIsReadIsPutBack
 read_is_put_back bytes p room are enough e =

@@ -1,5 +1,5 @@
 -- The plan of a site is well formed.
-use Rattle.std.proofs.Common.{◌≡◌, ℕ, ◌+◌, ◌<◌, true, map, length, get_or, Some, None, Option, sym, ap, ◌∙◌, arith}
+use Rattle.std.proofs.Common.{◌≡◌, ℕ, ◌<◌, true, map, length, get_or, Some, None, sym, ◌∙◌, arith}
 use Rattle.std.specs.List.{range_with_len}
 use Rattle.std.proofs.lemmas.List.FromFn.{length-map-range_with_len, get_or-map-range_with_len}
 use Rattle.std.proofs.lemmas.Bool.Decides.{nat_tests}
@@ -21,6 +21,9 @@ module _ (g : Site) (law : Lawful g) where
 
   at : {A : Type 0} (f : ℕ → A) (s : ℕ) (d : A) → s < g.size → get_or (map f (range_with_len 0 g.size)) s d ≡ f s
   at f s d h = get_or-map-range_with_len f 0 g.size s s d h (omega arith)
+
+  pub up_on_site : (s u : ℕ) → up g s ≡ Some u → u < g.size
+  up_on_site s u e = connected_on_site g law (number g u) s u ((up_in_words g law s).is u e).around
 
   fits : (s : ℕ) → s < g.size → Fits g.size s (entry (plan_of g) s)
   unfolding plan_of

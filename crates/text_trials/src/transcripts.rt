@@ -2,7 +2,8 @@
 
 use std::alloc::{AllocError, Global};
 use std::test::Fail;
-use transcript::Line;
+use transcript::{Line, Moved};
+use view::Refusal;
 
 /// What the walkthrough tells last of a text.
 fn last_line(heap: Global, text: &str) -> Result<String, AllocError> {
@@ -82,6 +83,71 @@ fn a_line_shows_the_bytes_of_a_sheet(rt: HostRuntime) -> Result<(), Fail> {
     ];
     for (bytes, told) in cases {
         assert_eq!(rt; Line::Sheet { bytes }.to_string(rt.alloc())?.as_str(), told);
+    }
+    Ok(())
+}
+
+#[test]
+fn lines_tell_of_links(rt: HostRuntime) -> Result<(), Fail> {
+    let fourth = Moved {
+        station: 4,
+        from: 1,
+        to: 2,
+    };
+    let last = Moved {
+        station: 511,
+        from: 32,
+        to: 31,
+    };
+    let cases: [(&[Moved], &str); 4] = [
+        (&[], "link 10 7: nobody moved"),
+        (&[fourth], "link 10 7: moved 4 1->2"),
+        (&[fourth, last], "link 10 7: moved 4 1->2, 511 32->31"),
+        (
+            &[last, fourth, last],
+            "link 10 7: moved 511 32->31, 4 1->2, 511 32->31",
+        ),
+    ];
+    for (moved, told) in cases {
+        let line = Line::Linked { a: 10, b: 7, moved };
+        assert_eq!(rt; line.to_string(rt.alloc())?.as_str(), told);
+    }
+    let refused = Line::LinkRefused {
+        a: 3,
+        b: 40,
+        refusal: Refusal::RowFull { station: 3 },
+    };
+    assert_eq!(rt;
+        refused.to_string(rt.alloc())?.as_str(),
+        "link 3 40: refused 6 place 3"
+    );
+    Ok(())
+}
+
+#[test]
+fn lines_tell_of_an_inspection_and_of_levels(rt: HostRuntime) -> Result<(), Fail> {
+    let cases: [(Line<'_>, &str); 4] = [
+        (Line::Inspected(Ok(())), "inspected: passed"),
+        (
+            Line::Inspected(Err(Refusal::NotASheet { place: 20 })),
+            "inspected: refused 10 place 20",
+        ),
+        (
+            Line::Inspected(Err(Refusal::CountsDiffer)),
+            "inspected: refused 13 place 0",
+        ),
+        (
+            Line::Level {
+                level: 11,
+                members: 12,
+                inside: 66,
+                boundary: 7,
+            },
+            "level 11: 12 members, 66 inside, 7 boundary",
+        ),
+    ];
+    for (line, told) in cases {
+        assert_eq!(rt; line.to_string(rt.alloc())?.as_str(), told);
     }
     Ok(())
 }

@@ -3,4 +3,4 @@
 
 mod lines;
 
-pub use lines::Line;
+pub use lines::{Line, Moved};

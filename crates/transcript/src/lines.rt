@@ -1,7 +1,7 @@
 //! The lines of the walkthrough, without their ends.
 
 ghost use Rattle.std.specs.Prelude.{Some};
-ghost use Rattle.transcript.specs.Wording.{in_hexadecimal, listed, told, up_or_dash};
+ghost use Rattle.transcript.specs.Wording.{in_hexadecimal, listed, movement, movements, others_moved, told, up_or_dash};
 
 use refusals::Refusal;
 use std::fmt;
@@ -22,6 +22,18 @@ pub enum Line<'a> {
     },
     /// `lawful: N stations, K links`, or the line of the refusal
     Verdict(Result<Extent, Refusal>),
+    /// `link A B: moved S K->L, T M->N`, or `link A B: nobody moved`
+    Linked {
+        a: usize,
+        b: usize,
+        moved: &'a [Moved],
+    },
+    /// `link A B: ` and the line of the refusal
+    LinkRefused {
+        a: usize,
+        b: usize,
+        refusal: Refusal,
+    },
     /// `struck S`
     Struck {
         station: usize,
@@ -46,6 +58,15 @@ pub enum Line<'a> {
     Sheet {
         bytes: &'a [u8],
     },
+    /// `inspected: passed`, or `inspected: ` and the line of the refusal
+    Inspected(Result<(), Refusal>),
+    /// `level K: M members, I inside, B boundary`
+    Level {
+        level: usize,
+        members: u32,
+        inside: u32,
+        boundary: u32,
+    },
 }
 
 impl fmt::Display for Line<'_> {
@@ -67,6 +88,11 @@ impl fmt::Display for Line<'_> {
                 write!(f, "lawful: {stations} stations, {links} links")
             }
             Line::Verdict(Err(refusal)) => write!(f, "{refusal}"),
+            Line::Linked { a, b, moved } => {
+                let moved = Movements(moved);
+                write!(f, "link {a} {b}: {moved}")
+            }
+            Line::LinkRefused { a, b, refusal } => write!(f, "link {a} {b}: {refusal}"),
             Line::Struck { station } => write!(f, "struck {station}"),
             Line::NoStation { argument } => write!(f, "argument {argument}: not a station"),
             Line::Removed { station, left } => write!(f, "removed {station} with {left} left"),
@@ -84,7 +110,73 @@ impl fmt::Display for Line<'_> {
                 let digits = Hexadecimal(bytes);
                 write!(f, "sheet {count} bytes:{digits}")
             }
+            Line::Inspected(Ok(())) => write!(f, "inspected: passed"),
+            Line::Inspected(Err(refusal)) => write!(f, "inspected: {refusal}"),
+            Line::Level {
+                level,
+                members,
+                inside,
+                boundary,
+            } => {
+                write!(
+                    f,
+                    "level {level}: {members} members, {inside} inside, {boundary} boundary"
+                )
+            }
         }
+    }
+}
+
+/// A station whose number changed.
+#[derive(Clone, Copy, Default, PartialEq, Eq, Debug)]
+pub struct Moved {
+    pub station: usize,
+    /// Its number before.
+    pub from: u16,
+    /// Its number now.
+    pub to: u16,
+}
+
+/// `S K->L`.
+impl fmt::Display for Moved {
+    ghost output = { λ moved. Some (movement moved) };
+
+    fn fmt<W: fmt::Write>(&self, f: &mut fmt::Formatter<W>) -> fmt::Result {
+        let Moved { station, from, to } = *self;
+        write!(f, "{station} {from}->{to}")
+    }
+}
+
+/// `moved` and the stations that did, parted by commas, or `nobody moved`.
+#[derive(Clone, Copy)]
+struct Movements<'a>(&'a [Moved]);
+
+impl fmt::Display for Movements<'_> {
+    ghost output = { λ moved. Some (movements moved.0.now) };
+
+    fn fmt<W: fmt::Write>(&self, f: &mut fmt::Formatter<W>) -> fmt::Result {
+        match self.0 {
+            [] => write!(f, "nobody moved"),
+            [first, others @ ..] => {
+                let others = Others(others);
+                write!(f, "moved {first}{others}")
+            }
+        }
+    }
+}
+
+/// The stations that moved behind the first, each after a comma.
+#[derive(Clone, Copy)]
+struct Others<'a>(&'a [Moved]);
+
+impl fmt::Display for Others<'_> {
+    ghost output = { λ others. Some (others_moved others.0.now) };
+
+    fn fmt<W: fmt::Write>(&self, f: &mut fmt::Formatter<W>) -> fmt::Result {
+        for moved in self.0 {
+            write!(f, ", {moved}")?;
+        }
+        Ok(())
     }
 }
 

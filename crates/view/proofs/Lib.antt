@@ -15,3 +15,4 @@ pub mod Written
 pub mod Levels
 pub mod Settled
 pub mod Descent
+pub mod Fronts

@@ -1,5 +1,5 @@
 -- What an argument of the program does. Assumes nothing.
-use Rattle.std.specs.Prelude.{ℕ, true, Some, None, Ok, Err, Option, Result}
+use Rattle.std.specs.Prelude.{ℕ, true, Some, None, Err, Option, Result}
 use Rattle.std.specs.Result.{result_map_both}
 use Rattle.transcript.specs.declared.lines.Line.{Line}
 use Rattle.transcript.specs.declared.lines.Line.TheVariants.{NoStation, Verdict}

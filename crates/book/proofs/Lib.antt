@@ -1,0 +1,10 @@
+pub mod Rows
+pub mod Tables
+pub mod LaidOut
+pub mod Queues
+pub mod Falling
+pub mod Rising
+pub mod Changed
+pub mod Granted
+pub mod Followed
+pub mod Moving

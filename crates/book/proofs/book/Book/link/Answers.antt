@@ -1,0 +1,9 @@
+use Rattle.std.proofs.Common.{sym, ◌∙◌}
+use Rattle.book.specs.Books.{site}
+use Rattle.book.proofs.Moving.{moves_up}
+use Rattle.book.proofs.book.Book.link.Goals as goal
+
+pub returns-clause-moves : goal.returns-clause-moves
+returns-clause-moves c =
+    let book = c.args.self.now in
+    moves_up (site book) _ book.current.sound.faithful.lawful c.args.a c.args.b _ (sym c.check_link.ensures ∙ c.in_ok-check_link.was) c.join.ensures.site

@@ -1,0 +1,9 @@
+use Rattle.book.specs.Stations.{cut}
+use Rattle.book.proofs.Tables.{one_row, same_numbers}
+use Rattle.book.proofs.table.Table.remove.Goals as goal
+
+pub returns-clause-links : goal.returns-clause-links
+returns-clause-links c = one_row c.args.self.now.count c.args.s c.args.self.now.stations _ (cut c.args.t) c.remove.ensures.row
+
+pub returns-clause-numbers : goal.returns-clause-numbers
+returns-clause-numbers c = same_numbers c.args.self.now.count c.args.s c.args.self.now.stations _ c.remove.ensures.number

@@ -1,0 +1,3 @@
+pub mod Inspecting
+pub mod Parts
+pub mod Passing

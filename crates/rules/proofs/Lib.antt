@@ -1,0 +1,6 @@
+pub mod Links
+pub mod Heard
+pub mod Tops
+pub mod Notes
+mod Sweeps
+mod Tabled

@@ -1,0 +1,7 @@
+pub mod Limits
+pub mod Levels
+pub mod Noted
+pub mod Tallies
+pub mod Orders
+pub mod Scores
+pub mod OrderLaws

@@ -1,0 +1,23 @@
+//! The laws of the levels, each on a contract of its own.
+
+ghost use Rattle.rules.specs.Levels.{TheTopIsTheGreatestNumber, TheBottomLevelIsTheWholeSite, MembersHearInsideLinksTwiceAndBoundaryLinksOnce, EveryLevelIsWithinTheLimits};
+
+/// The top is the greatest number of a station.
+pub fn top_is_greatest_number()
+    ensures { TheTopIsTheGreatestNumber }
+{}
+
+/// Level 0 is the whole site.
+pub fn bottom_level_is_whole_site()
+    ensures { TheBottomLevelIsTheWholeSite }
+{}
+
+/// The members of a group hear each other over each inside link twice, and strangers over each boundary link once.
+pub fn members_hear_inside_links_twice()
+    ensures { MembersHearInsideLinksTwiceAndBoundaryLinksOnce }
+{}
+
+/// The counts of every level are within the limits of a tally.
+pub fn levels_are_within_limits()
+    ensures { EveryLevelIsWithinTheLimits }
+{}

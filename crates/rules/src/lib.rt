@@ -1,0 +1,20 @@
+//! Levels of a site: their counts, and the rules that score them.
+#![tactic(auto)]
+
+mod average;
+mod counts;
+pub mod laws;
+pub mod levels;
+mod net;
+mod numbered;
+mod paired;
+mod rule;
+mod tally;
+
+pub use average::{Average, Fraction};
+pub use counts::Counts;
+pub use net::Net;
+pub use paired::{Pair, Paired};
+pub use rule::Rule;
+pub use tally::Tally;
+pub use view::Refusal;
