@@ -88,6 +88,18 @@ fn a_line_shows_the_bytes_of_a_sheet(rt: HostRuntime) -> Result<(), Fail> {
 }
 
 #[test]
+fn a_line_shows_the_bytes_of_cards(rt: HostRuntime) -> Result<(), Fail> {
+    let line = Line::Cards {
+        bytes: &[4, 0, 0xff, 0xff],
+    };
+    assert_eq!(rt;
+        line.to_string(rt.alloc())?.as_str(),
+        "cards 4 bytes: 04 00 ff ff"
+    );
+    Ok(())
+}
+
+#[test]
 fn lines_tell_of_links(rt: HostRuntime) -> Result<(), Fail> {
     let fourth = Moved {
         station: 4,

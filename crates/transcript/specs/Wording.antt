@@ -5,7 +5,7 @@ use Rattle.std.specs.List.{flat_map}
 use Rattle.refusals.specs.Refusals.{refusal_line}
 use Rattle.transcript.specs.declared.lines.Line.{Line}
 use Rattle.transcript.specs.declared.lines.Moved.{Moved}
-use Rattle.transcript.specs.declared.lines.Line.TheVariants.{Heading, Row, Verdict, Linked, LinkRefused, Struck, NoStation, Removed, Station, Sheet, Inspected, Level}
+use Rattle.transcript.specs.declared.lines.Line.TheVariants.{Heading, Row, Verdict, Linked, LinkRefused, Struck, NoStation, Removed, Station, Sheet, Inspected, Cards, Level}
 
 -- ` a b c`: a space before each
 abbrev pub listed : List ℕ → List ℕ
@@ -37,9 +37,13 @@ hexadecimal byte = digit_glyph false (byte / 16) ∷ digit_glyph false (byte % 1
 abbrev pub in_hexadecimal : List ℕ → List ℕ
 in_hexadecimal bytes = flat_map (λ byte. codes " " ++ hexadecimal byte) bytes
 
+-- `L bytes: 01 0a ff`
+abbrev pub counted_bytes : List ℕ → List ℕ
+counted_bytes bytes = decimal (length bytes) ++ (codes " bytes:" ++ in_hexadecimal bytes)
+
 -- `table of N stations, E ends`, `row S: a b c`, `lawful: N stations, K links`, or the line of a refusal;
 -- `link A B: moved S K->L, T M->N`, `link A B: nobody moved`, or `link A B: ` and the line of a refusal; `struck S`, `argument A: not a station`, `removed S with D left`, `station S number K home H up U`, `sheet L bytes: 01 0a ff`;
--- `inspected: passed`, or `inspected: ` and the line of a refusal; `level K: M members, I inside, B boundary`
+-- `inspected: passed`, or `inspected: ` and the line of a refusal; `cards L bytes: 01 0a ff`; `level K: M members, I inside, B boundary`
 abbrev pub told : Line → List ℕ
 told (Heading stations ends) = codes "table of " ++ (decimal stations ++ (codes " stations, " ++ (decimal ends ++ codes " ends")))
 told (Row station neighbours) = codes "row " ++ (decimal station ++ (codes ":" ++ listed neighbours.now))
@@ -51,7 +55,8 @@ told (Struck station) = codes "struck " ++ decimal station
 told (NoStation argument) = codes "argument " ++ (decimal argument ++ codes ": not a station")
 told (Removed station left) = codes "removed " ++ (decimal station ++ (codes " with " ++ (decimal left ++ codes " left")))
 told (Station station number home up) = codes "station " ++ (decimal station ++ (codes " number " ++ (decimal number ++ (codes " home " ++ (decimal home ++ (codes " up " ++ up_or_dash up))))))
-told (Sheet bytes) = codes "sheet " ++ (decimal (length bytes.now) ++ (codes " bytes:" ++ in_hexadecimal bytes.now))
+told (Sheet bytes) = codes "sheet " ++ counted_bytes bytes.now
 told (Inspected (Ok u)) = codes "inspected: passed"
 told (Inspected (Err refusal)) = codes "inspected: " ++ refusal_line refusal
+told (Cards bytes) = codes "cards " ++ counted_bytes bytes.now
 told (Level level members inside boundary) = codes "level " ++ (decimal level ++ (codes ": " ++ (decimal members ++ (codes " members, " ++ (decimal inside ++ (codes " inside, " ++ (decimal boundary ++ codes " boundary")))))))

@@ -1,7 +1,7 @@
 //! The lines of the walkthrough, without their ends.
 
 ghost use Rattle.std.specs.Prelude.{Some};
-ghost use Rattle.transcript.specs.Wording.{in_hexadecimal, listed, movement, movements, others_moved, told, up_or_dash};
+ghost use Rattle.transcript.specs.Wording.{counted_bytes, in_hexadecimal, listed, movement, movements, others_moved, told, up_or_dash};
 
 use refusals::Refusal;
 use std::fmt;
@@ -60,6 +60,10 @@ pub enum Line<'a> {
     },
     /// `inspected: passed`, or `inspected: ` and the line of the refusal
     Inspected(Result<(), Refusal>),
+    /// `cards L bytes: 01 0a ff`
+    Cards {
+        bytes: &'a [u8],
+    },
     /// `level K: M members, I inside, B boundary`
     Level {
         level: usize,
@@ -106,9 +110,12 @@ impl fmt::Display for Line<'_> {
                 write!(f, "station {station} number {number} home {home} up {up}")
             }
             Line::Sheet { bytes } => {
-                let count = bytes.len();
-                let digits = Hexadecimal(bytes);
-                write!(f, "sheet {count} bytes:{digits}")
+                let bytes = Bytes(bytes);
+                write!(f, "sheet {bytes}")
+            }
+            Line::Cards { bytes } => {
+                let bytes = Bytes(bytes);
+                write!(f, "cards {bytes}")
             }
             Line::Inspected(Ok(())) => write!(f, "inspected: passed"),
             Line::Inspected(Err(refusal)) => write!(f, "inspected: {refusal}"),
@@ -207,6 +214,20 @@ impl fmt::Display for Up {
             Some(up) => write!(f, "{up}"),
             None => write!(f, "-"),
         }
+    }
+}
+
+/// `L bytes: 01 0a ff`.
+#[derive(Clone, Copy)]
+struct Bytes<'a>(&'a [u8]);
+
+impl fmt::Display for Bytes<'_> {
+    ghost output = { λ bytes. Some (counted_bytes bytes.0.now) };
+
+    fn fmt<W: fmt::Write>(&self, f: &mut fmt::Formatter<W>) -> fmt::Result {
+        let count = self.0.len();
+        let digits = Hexadecimal(self.0);
+        write!(f, "{count} bytes:{digits}")
     }
 }
 

@@ -14,6 +14,7 @@ ghost use Rattle.walkthrough.specs.Ending.{status_of, verdict_on, status_after};
 
 mod linking;
 
+use cards::Offered;
 use drawer::Removal;
 use inspector::inspect;
 use linking::tell_book;
@@ -82,6 +83,16 @@ fn tell_inspected<V: View>(rt: &impl Print, view: &V, sheet: &[u8]) -> anyhow::R
     })
 }
 
+/// Passes a sheet over a view, and tells the route cards that are issued of it.
+fn tell_cards(rt: &impl Print, view: &impl View, sheet: &[u8]) -> anyhow::Result<()> {
+    let mut buffer = [0; cards::LONGEST];
+    let length = Offered::new(sheet).pass(view)?.issue(&mut buffer)?;
+    rt.println(Line::Cards {
+        bytes: &buffer[..length],
+    })?;
+    Ok(())
+}
+
 /// Tells the levels of a view, from the top down.
 fn tell_levels(rt: &impl Print, view: &impl View) -> anyhow::Result<()> {
     let mut levels = [Counts::default(); 512];
@@ -97,7 +108,7 @@ fn tell_levels(rt: &impl Print, view: &impl View) -> anyhow::Result<()> {
     Ok(())
 }
 
-/// Tells how a view is drawn, the sheet, what the inspector says of it, and the levels.
+/// Tells how a view is drawn, the sheet, what the inspector says of it, the route cards, and the levels.
 fn tell_drawn<V: View>(rt: &impl Print, view: &V) -> anyhow::Result<ExitCode>
     ensures { let g = V.View.site view.now in
         IfOk result (λ code. exit_status code ≡ status_of (inspected g (sheet_of g))) }
@@ -108,6 +119,7 @@ fn tell_drawn<V: View>(rt: &impl Print, view: &V) -> anyhow::Result<ExitCode>
     let sheet = &buffer[..length];
     tell_sheet(rt, sheet)?;
     let code = tell_inspected(rt, view, sheet)?;
+    tell_cards(rt, view, sheet)?;
     tell_levels(rt, view)?;
     Ok(code)
 }
