@@ -5,7 +5,7 @@ use rules::Net;
 use std::cmp::Ordering::{Equal, Greater, Less};
 
 /// The rule with these weights: of a link inside, of a link at the boundary and of a member.
-pub fn net([inside_gain, boundary_cost, member_cost]: [u16; 3]) -> Net {
+pub(crate) fn net([inside_gain, boundary_cost, member_cost]: [u16; 3]) -> Net {
     Net {
         inside_gain,
         boundary_cost,
