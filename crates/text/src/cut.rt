@@ -65,7 +65,7 @@ pub struct Token<'a> {
 }
 
 /// The words of a line that are still to come.
-#[derive(Debug, Drop)]
+#[derive(Clone, Copy, Debug)]
 pub struct Tokens<'a> {
     line: &'a [u8],
     at: usize,
