@@ -4,3 +4,6 @@ pub mod Tops
 pub mod Notes
 mod Sweeps
 mod Tabled
+mod Tallied
+mod Bests
+pub mod Chosen

@@ -1,17 +1,17 @@
 -- What the table of numbers says of the levels.
-use Rattle.std.proofs.Common.{◌≡◌, ℕ, suc, ◌+◌, ◌<◌, ◌≤◌, true, leb, List, ◌++◌, length, get_or, take, drop, Ok, Err, sym, refl, ap, ◌∙◌, add-one, arith}
+use Rattle.std.proofs.Common.{◌≡◌, ℕ, suc, ◌+◌, ◌<◌, ◌≤◌, true, false, leb, List, ◌++◌, length, get_or, take, drop, Ok, Err, sym, refl, ap, ◌∙◌, add-one, arith}
 use Rattle.std.specs.List.{Contains}
 use Rattle.std.proofs.lemmas.List.{take_at, ext_get_or}
 use Rattle.std.proofs.lemmas.List.FromFn.{length-map-range_with_len, get_or-map-range_with_len}
 use Rattle.std.proofs.lemmas.Grind.{get_or_default_zero}
 use Rattle.std.proofs.lemmas.Bool.Decides.{nat_tests}
 use Rattle.refusals.specs.declared.Refusal.{Refusal}
-use Rattle.refusals.specs.declared.Refusal.TheVariants.{BufferShort}
+use Rattle.refusals.specs.declared.Refusal.TheVariants.{CountOutOfRange, BufferShort}
 use Rattle.rules.specs.declared.counts.Counts.{Counts}
-use Rattle.cores.specs.Site.{Site, sized}
+use Rattle.cores.specs.Site.{Site, Lawful, sized}
 use Rattle.cores.specs.Numbers.{in_core, number}
 use Rattle.cores.proofs.Searches.{by_cases}
-use Rattle.cores.proofs.Numbers.{core_number}
+use Rattle.cores.proofs.Numbers.{core_number, number_below}
 use Rattle.view.specs.Answers.{answer, left_in}
 use Rattle.view.proofs.Admitted.{sized_within}
 use Rattle.sheet.specs.Sites.{plan_of}
@@ -19,7 +19,7 @@ use Rattle.drawer.specs.Calls.{written_for}
 use Rattle.rules.specs.Levels.{counts_of, top, levels}
 use Rattle.rules.specs.Noted.{Holds, counts_from}
 use Rattle.rules.proofs.Links.{no_counts, counts_same}
-use Rattle.rules.proofs.Tops.{top_is}
+use Rattle.rules.proofs.Tops.{top_had, top_is}
 
 module _ (g : Site) where
   numbers_length : length (plan_of g).numbers ≡ g.size
@@ -30,25 +30,40 @@ module _ (g : Site) where
   unfolding levels
   levels_length = length-map-range_with_len _ 0 (suc (top g)) ∙ sym (add-one (top g))
 
-  -- what the call for the numbers answered, and left in a table with room for all
+  -- what a call answered that writes 512 entries at most, and left in a table with room for all
+  module _ {A : Type 0} (xs : List A) (fits : sized g.size ≡ true → length xs ≤ 512) where
+    pub counted_out : (e : Refusal) → Err e ≡ answer length (written_for g 512 xs) → (sized g.size ≡ false) × (e ≡ CountOutOfRange)
+    counted_out e answered = by_cases (sized g.size) (λ small. let few = fits small in absurd (grind (arith, nat_tests))) (λ large. (large, grind (arith, nat_tests)))
+
+    pub written_out : (n : ℕ) (table blank : List A) → Ok n ≡ answer length (written_for g 512 xs) → table ≡ left_in (λ xs. xs) (written_for g 512 xs) blank
+        → (sized g.size ≡ true) × (take n table ≡ xs)
+    written_out n table blank answered left =
+        by_cases (sized g.size)
+        (λ small.
+        let few = fits small in
+        let all : written_for g 512 xs ≡ Ok xs = grind (arith, nat_tests) in
+        let counted : length xs ≡ n = grind (arith, nat_tests) in
+        (small, rw (left, all) (take_at xs (drop (length xs) blank) n counted)))
+        (λ large. absurd (grind (arith, nat_tests)))
+
+  numbers_few : sized g.size ≡ true → length (plan_of g).numbers ≤ 512
+  numbers_few small = omega (arith, numbers_length, (sized_within g.size small).1)
+
   pub refused : (e : Refusal) (room : ℕ) → Err e ≡ answer length (written_for g 512 (plan_of g).numbers) → written_for g room (levels g) ≡ Err e
   refused e room answered =
-      let long = numbers_length in
-      by_cases (sized g.size)
-      (λ small. let few = (sized_within g.size small).1 in absurd (grind (arith, nat_tests)))
-      (λ large. grind (arith, nat_tests))
+      let (large, is) = counted_out (plan_of g).numbers numbers_few e answered in
+      rw (large, is) refl
 
   pub taken : (n : ℕ) (table blank : List ℕ) → Ok n ≡ answer length (written_for g 512 (plan_of g).numbers) → table ≡ left_in (λ xs. xs) (written_for g 512 (plan_of g).numbers) blank
       → (sized g.size ≡ true) × (take n table ≡ (plan_of g).numbers)
-  taken n table blank answered left =
-      let long = numbers_length in
-      by_cases (sized g.size)
-      (λ small.
-      let few = (sized_within g.size small).1 in
-      let all : written_for g 512 (plan_of g).numbers ≡ Ok (plan_of g).numbers = grind (arith, nat_tests) in
-      let counted : n ≡ g.size = grind (arith, nat_tests) in
-      (small, rw (left, all) (take_at (plan_of g).numbers (drop (length (plan_of g).numbers) blank) n (omega arith))))
-      (λ large. absurd (grind (arith, nat_tests)))
+  taken = written_out (plan_of g).numbers numbers_few
+
+  -- a lawful site has no more levels than stations
+  pub levels_few : Lawful g → sized g.size ≡ true → length (levels g) ≤ 512
+  levels_few law small =
+      let (more, few) = sized_within g.size small in
+      let (s, h, is) = top_had g more in
+      omega (arith, levels_length, number_below g law s h)
 
   -- a table of the numbers
   module _ (numbers : List ℕ) (are : numbers ≡ (plan_of g).numbers) where

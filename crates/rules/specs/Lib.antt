@@ -5,3 +5,4 @@ pub mod Tallies
 pub mod Orders
 pub mod Scores
 pub mod OrderLaws
+pub mod Choices

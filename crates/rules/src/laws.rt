@@ -1,6 +1,7 @@
 //! The laws of the levels, each on a contract of its own.
 
 ghost use Rattle.rules.specs.Levels.{TheTopIsTheGreatestNumber, TheBottomLevelIsTheWholeSite, MembersHearInsideLinksTwiceAndBoundaryLinksOnce, EveryLevelIsWithinTheLimits};
+ghost use Rattle.rules.specs.Choices.{TheChoiceIsBest, OnlyOneIsChosen};
 
 /// The top is the greatest number of a station.
 pub fn top_is_greatest_number()
@@ -20,4 +21,15 @@ pub fn members_hear_inside_links_twice()
 /// The counts of every level are within the limits of a tally.
 pub fn levels_are_within_limits()
     ensures { EveryLevelIsWithinTheLimits }
+{}
+
+/// The level that is chosen has a tally, no level scores above it, and it is the greatest of those that score level with
+/// it.
+pub fn choice_is_best<Score>()
+    ensures { TheChoiceIsBest Score }
+{}
+
+/// No other level is so.
+pub fn only_one_is_chosen<Score>()
+    ensures { OnlyOneIsChosen Score }
 {}

@@ -1,4 +1,4 @@
-//! Levels of a site: their counts, and the rules that score them.
+//! Levels of a site: their counts, the rules that score them, and the level that a rule chooses.
 #![tactic(auto)]
 
 mod average;

@@ -1,4 +1,4 @@
-use Rattle.std.specs.Prelude.{ℕ, ◌+◌, ◌-◌, ◌*◌, Bool, true, false, cond, ◌&&◌, List, [], ◌∷◌, length, Some, None, Option, ◌==◌, nat_le}
+use Rattle.std.specs.Prelude.{ℕ, ◌+◌, ◌-◌, ◌*◌, ◌^◌, Bool, true, false, cond, ◌&&◌, List, [], ◌∷◌, length, Some, None, Option, ◌==◌, nat_le}
 use Rattle.std.specs.Char.{is_ascii_digit}
 use Rattle.std.specs.List.{before_first, onto_first, list_all, fold}
 
@@ -28,10 +28,22 @@ tokens_of line = tokens true 1 line
 unfoldable pub read_on : ℕ → List ℕ → ℕ
 read_on n bs = fold (λ m b. m * 10 + (b - 48)) n bs
 
+-- The value of digits, if it is at most `limit`.
+abbrev pub value_up_to : ℕ → List ℕ → Option ℕ
+value_up_to limit bs = cond (list_all is_ascii_digit bs && nat_le (read_on 0 bs) limit) (Some (read_on 0 bs)) None
+
 -- The value of digits, if it is at most 65535.
 unfoldable pub value_of : List ℕ → Option ℕ
-value_of bs = cond (list_all is_ascii_digit bs && nat_le (read_on 0 bs) 65535) (Some (read_on 0 bs)) None
+value_of bs = value_up_to 65535 bs
 
 -- The same of one to `most` digits; leading zeros are allowed.
 abbrev pub decimal_of : ℕ → List ℕ → Option ℕ
 decimal_of most bs = cond (nat_le 1 (length bs) && nat_le (length bs) most) (value_of bs) None
+
+-- The value of one digit or more, if it is at most `limit`.
+abbrev pub number_up_to : ℕ → List ℕ → Option ℕ
+number_up_to limit bs = cond (nat_le 1 (length bs)) (value_up_to limit bs) None
+
+-- The same if it fits 64 bits.
+abbrev pub natural_of : List ℕ → Option ℕ
+natural_of bs = number_up_to (2 ^ 64 - 1) bs

@@ -6,4 +6,4 @@ pub mod laws;
 mod numbers;
 
 pub use cut::{Lines, Token, Tokens};
-pub use numbers::decimal;
+pub use numbers::{decimal, natural};

@@ -2,7 +2,7 @@
 
 use std::test::Fail;
 use tables::Unread;
-use text::{Lines, Token, Tokens, decimal};
+use text::{Lines, Token, Tokens, decimal, natural};
 
 #[test]
 fn a_text_has_lines_and_a_line_has_words(rt: HostRuntime) {
@@ -36,6 +36,21 @@ fn numbers_are_read(rt: HostRuntime) {
     ];
     for (word, value) in cases {
         assert_eq!(rt; decimal(word.as_bytes(), 5), value, "{}", word);
+    }
+}
+
+#[test]
+fn numbers_of_64_bits_are_read(rt: HostRuntime) {
+    let cases: [(&str, Option<usize>); 6] = [
+        ("0", Some(0)),
+        ("00000000000000000000000000012", Some(12)),
+        ("18446744073709551615", Some(usize::MAX)),
+        ("18446744073709551616", None),
+        ("", None),
+        ("+1", None),
+    ];
+    for (word, value) in cases {
+        assert_eq!(rt; natural(word.as_bytes()), value, "{}", word);
     }
 }
 

@@ -3,4 +3,4 @@
 
 mod lines;
 
-pub use lines::{Line, Moved};
+pub use lines::{Line, Moved, Stations};

@@ -188,8 +188,8 @@ impl fmt::Display for Others<'_> {
 }
 
 /// Stations, each after a space.
-#[derive(Clone, Copy)]
-struct Stations<'a>(&'a [u16]);
+#[derive(Clone, Copy, PartialEq, Eq, Debug)]
+pub struct Stations<'a>(pub &'a [u16]);
 
 impl fmt::Display for Stations<'_> {
     ghost output = { λ row. Some (listed row.0.now) };

@@ -1,0 +1,2 @@
+mod Carried
+mod Agreed

@@ -1,0 +1,4 @@
+pub mod Digits
+pub mod NumberSteps
+pub mod Phrases
+pub mod NameSteps
