@@ -6,10 +6,10 @@ use Rattle.refusals.specs.declared.Refusal.{Refusal}
 use Rattle.refusals.specs.declared.Refusal.TheVariants.{BufferShort}
 use Rattle.cores.specs.Site.{Site}
 use Rattle.cores.specs.Numbers.{number}
+use Rattle.cores.specs.Links.{MovesUp, MovesDown}
 use Rattle.view.specs.Answers.{answer, left_in}
 use Rattle.inspector.specs.Inspecting.{inspected}
 use Rattle.book.specs.Books.{site, stored}
-use Rattle.book.specs.Moves.{MovesUp, MovesDown}
 use Rattle.rules.specs.declared.tally.Tally.{Tally}
 use Rattle.rules.specs.Levels.{top}
 use Rattle.rules.specs.Choices.{IsTallyOf, IsChoice, choice_answer}

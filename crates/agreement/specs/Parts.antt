@@ -4,7 +4,7 @@ use Rattle.std.specs.List.{slice_get}
 use Rattle.std.specs.Result.{result_map_both}
 use Rattle.refusals.specs.declared.Refusal.{Refusal}
 use Rattle.cores.specs.Site.{Site}
-use Rattle.book.specs.Moves.{MovesUp, MovesDown}
+use Rattle.cores.specs.Links.{MovesUp, MovesDown}
 use Rattle.agreement.specs.declared.call.Call.{Call}
 use Rattle.agreement.specs.declared.call.Call.TheVariants.{LayOut, Link, Unlink, ReadSurvey}
 use Rattle.agreement.specs.Calls.{site_after}

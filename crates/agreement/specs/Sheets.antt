@@ -3,14 +3,13 @@ use Rattle.std.specs.Prelude.{◌≡◌, ℕ, ◌<◌, true, cond, List, Ok, Err
 use Rattle.refusals.specs.declared.Refusal.{Refusal}
 use Rattle.refusals.specs.declared.Refusal.TheVariants.{CountOutOfRange}
 use Rattle.cores.specs.Site.{Site, EachOnce}
-use Rattle.cores.specs.Numbers.{number}
+use Rattle.cores.specs.Numbers.{number, IsGreatest}
 use Rattle.cores.specs.Forest.{home, up}
 use Rattle.cores.specs.Orders.{rightful}
 use Rattle.sheet.specs.Plans.{Plan, stations, entry}
 use Rattle.sheet.specs.Decoding.{decode}
 use Rattle.sheet.specs.Sites.{sheet_of}
 use Rattle.inspector.specs.Inspecting.{inspected}
-use Rattle.inspector.specs.Passing.{IsGreatest}
 
 -- the sheet of a site; without stations there is none
 abbrev pub sheet_if_any : Site → Result (List ℕ) Refusal

@@ -1,10 +1,9 @@
 -- What a call moves that is not refused.
 use Rattle.std.proofs.Common.{◌≡◌, ℕ, Ok, sym, subst}
 use Rattle.cores.specs.Site.{Site, Lawful}
-use Rattle.cores.specs.Links.{joined, parted}
+use Rattle.cores.specs.Links.{joined, parted, MovesUp, MovesDown}
 use Rattle.cores.proofs.Links.{link_more, link_less}
 use Rattle.book.specs.Answers.{link_answer, unlink_answer}
-use Rattle.book.specs.Moves.{MovesUp, MovesDown}
 use Rattle.book.proofs.Granted.{link_granted, unlink_granted}
 
 pub moves_up : (old new : Site) → Lawful old → (a b : ℕ) (u : Unit {0}) → link_answer old a b ≡ Ok u → new ≡ joined old a b → MovesUp old new a b

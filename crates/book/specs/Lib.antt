@@ -4,5 +4,4 @@ pub mod Books
 pub mod Answers
 pub mod Queues
 pub mod Updates
-pub mod Moves
 pub mod Laws

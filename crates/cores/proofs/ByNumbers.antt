@@ -10,7 +10,7 @@ use Rattle.cores.specs.Orders.{CoreNumbers}
 use Rattle.cores.specs.ByNumbers.{at_least, connected_by, core_home_by, home_by, home_below_by, up_by, ConnectedByNumbersMeansAChain, ByCoreNumbersTheyAreThoseOfTheSite}
 use Rattle.cores.proofs.Searches.{by_cases, lowest_same}
 use Rattle.cores.proofs.Numbers.{core_on_site, core_number}
-use Rattle.cores.proofs.Reaching.{Parted, chain_found, reach_chain, reach_parts, reach_link, reach_wider}
+use Rattle.cores.proofs.Reaching.{Parted, chain_found, reach_chain, reach_parts, reach_link}
 
 module _ (g : Site) (c : ℕ → ℕ) where
   pub level_on_site : (k s : ℕ) → at_least g c k s ≡ true → s < g.size
@@ -40,13 +40,6 @@ module _ (g : Site) (c : ℕ → ℕ) where
         let (hs, ht) = law.inside s t l in
         reach_link g law (at_least g c k) (level_on_site k) s t (level_from k s hs o) (level_from k t ht p) l
 
-    -- a lower level connects all that a higher one does
-    pub level_lower : (j k s t : ℕ) → j ≤ k → connected_by g c k s t ≡ true → connected_by g c j s t ≡ true
-    unfolding connected_by
-    level_lower j k s t o =
-        reach_wider g law (at_least g c j) (level_on_site j) (at_least g c k)
-        (λ u x. level_from j u (level_on_site k u x) (omega (arith, level_number k u x))) s t
-
 pub connected_by_chain : ConnectedByNumbersMeansAChain
 unfolding connected_by
 connected_by_chain g law c k s t = (level_chain g c law k s t, chain_found g law (at_least g c k) (level_on_site g c k) s t)
@@ -69,18 +62,29 @@ module _ (g : Site) (law : Lawful g) (c : ℕ → ℕ) (right : CoreNumbers g c)
   same_core_home k s = lowest_same g.size (λ t. eqb (c t) k && connected_by g c k s t) (λ t. eqb (number g t) k && connected g k s t)
       (λ t h. let same = right t h in let with = same_connected k s t in grind arith)
 
-  same_home : (s : ℕ) → s < g.size → home_by g c s ≡ home g s
+  same_home : (s : ℕ) → c s ≡ number g s → home_by g c s ≡ home g s
   unfolding home_by home
-  same_home s h = rw (right s h) (ap (λ o. unwrap_or o s) (same_core_home (number g s) s))
+  same_home s e = rw e (ap (λ o. unwrap_or o s) (same_core_home (number g s) s))
 
   same_home_below : (k s : ℕ) → home_below_by g c k s ≡ home_below g k s
   unfolding home_below_by home_below
   same_home_below zero s = refl
   same_home_below (suc k) s = rw (same_core_home k s, same_home_below k s) refl
 
-  same_up : (s : ℕ) → s < g.size → up_by g c s ≡ up g s
+  same_up : (s : ℕ) → c s ≡ number g s → up_by g c s ≡ up g s
   unfolding up_by up
-  same_up s h = rw (same_home s h, right s h, same_home_below (number g s) s) refl
+  same_up s e = rw (same_home s e, e, same_home_below (number g s) s) refl
 
 pub same_by_core_numbers : ByCoreNumbersTheyAreThoseOfTheSite
-same_by_core_numbers g law c right s h = (same_home g law c right s h, same_up g law c right s h)
+same_by_core_numbers g law c right s h = (same_home g law c right s (right s h), same_up g law c right s (right s h))
+
+-- the numbers of the site give what is connected, the home and the up of any station, on the site or not
+module _ (g : Site) (law : Lawful g) where
+  pub own_connected : connected_by g (number g) ≡ connected g
+  own_connected = fun_ext (λ k. fun_ext (λ s. fun_ext (λ t. same_connected g law (number g) (λ u h. refl) k s t)))
+
+  pub own_home : home_by g (number g) ≡ home g
+  own_home = fun_ext (λ s. same_home g law (number g) (λ u h. refl) s refl)
+
+  pub own_up : up_by g (number g) ≡ up g
+  own_up = fun_ext (λ s. same_up g law (number g) (λ u h. refl) s refl)

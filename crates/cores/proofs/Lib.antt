@@ -5,8 +5,9 @@ pub mod Sums
 pub mod Sites
 pub mod Numbers
 pub mod Reaching
-pub mod Forest
 pub mod ByNumbers
+pub mod Homes
+pub mod Forest
 pub mod Drawing
 pub mod Orders
 pub mod Lifting

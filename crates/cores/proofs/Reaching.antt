@@ -137,11 +137,3 @@ module _ (g : Site) (law : Lawful g) (X : Group) (on_site : (s : ℕ) → X s �
 
   pub reach_link : (s t : ℕ) → X s ≡ true → X t ≡ true → g.linked s t ≡ true → reaches g X g.size s t ≡ true
   reach_link s t x y l = chain_found s t (step (start x) l y)
-
-  -- a larger group reaches all that a smaller one does
-  pub reach_wider : (Y : Group) → ((s : ℕ) → Y s ≡ true → X s ≡ true) → (s t : ℕ) → reaches g Y g.size s t ≡ true → reaches g X g.size s t ≡ true
-  reach_wider Y within s t e = chain_found s t (wider (reach_chain g Y s g.size t e))
-    where
-      wider : {u : ℕ} → Chain g Y s u → Chain g X s u
-      wider (start x) = start (within s x)
-      wider (step {u = u} c l x) = step (wider c) l (within u x)

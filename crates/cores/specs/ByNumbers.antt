@@ -4,6 +4,7 @@ use Rattle.std.specs.Option.{unwrap_or}
 use Rattle.cores.specs.Counting.{or_else, lowest}
 use Rattle.cores.specs.Site.{Site, Lawful}
 use Rattle.cores.specs.Numbers.{Group}
+use Rattle.cores.specs.Homes.{HomeInWords, UpInWords}
 use Rattle.cores.specs.Forest.{Chain, reaches, home, up}
 use Rattle.cores.specs.Orders.{CoreNumbers}
 
@@ -36,6 +37,13 @@ up_by g c s = cond (home_by g c s == s) (home_below_by g c (c s) s) None
 abbrev pub ConnectedByNumbersMeansAChain : Type 0
 ConnectedByNumbersMeansAChain = (g : Site) → Lawful g → (c : ℕ → ℕ) (k s t : ℕ)
     → (connected_by g c k s t ≡ true → Chain g (at_least g c k) s t) × (Chain g (at_least g c k) s t → connected_by g c k s t ≡ true)
+
+-- What is said of the homes and ups of a site holds of those by any numbers, with cores by these numbers.
+abbrev pub TheHomeByNumbersIsTheLowestOfItsCore : Type 0
+TheHomeByNumbersIsTheLowestOfItsCore = (g : Site) → Lawful g → (c : ℕ → ℕ) (s : ℕ) → s < g.size → HomeInWords c (connected_by g c) (home_by g c) s
+
+abbrev pub TheUpByNumbersIsTheNearestHomeBelow : Type 0
+TheUpByNumbersIsTheNearestHomeBelow = (g : Site) → Lawful g → (c : ℕ → ℕ) (s : ℕ) → UpInWords c (connected_by g c) (home_by g c) (up_by g c) s
 
 -- By the core numbers, homes and ups are those of the site.
 abbrev pub ByCoreNumbersTheyAreThoseOfTheSite : Type 0

@@ -1,9 +1,10 @@
 -- Connected cores, and the forest that they make: the home and the up of a station.
-use Rattle.std.specs.Prelude.{◌≡◌, ℕ, zero, suc, ◌<◌, ◌≤◌, Bool, true, false, cond, ◌&&◌, ◌||◌, Some, None, Option, ◌==◌}
+use Rattle.std.specs.Prelude.{◌≡◌, ℕ, zero, suc, ◌<◌, Bool, true, cond, ◌&&◌, ◌||◌, None, Option, ◌==◌}
 use Rattle.std.specs.Option.{unwrap_or}
 use Rattle.cores.specs.Counting.{some, or_else, lowest}
 use Rattle.cores.specs.Site.{Site, Lawful}
 use Rattle.cores.specs.Numbers.{Group, in_core, number}
+use Rattle.cores.specs.Homes.{HomeInWords, UpInWords}
 
 -- Chain g X s t: links between members of X lead from s to t, over any number of members.
 pub data Chain (g : Site) (X : Group) (s : ℕ) : ℕ → Type 0 where
@@ -51,35 +52,10 @@ pub record Parts (g : Site) (k : ℕ) : Type 0 where
 abbrev pub ConnectedCoresPartTheCoreSet : Type 0
 ConnectedCoresPartTheCoreSet = (g : Site) → Lawful g → (k : ℕ) → Parts g k
 
--- h is the home of s: it has the number of s, is in its connected core, and is the lowest such station.
-pub record IsHome (g : Site) (s h : ℕ) : Type 0 where
-  pub same_number : number g h ≡ number g s
-  pub together : connected g (number g s) s h ≡ true
-  pub lowest : (t : ℕ) → number g t ≡ number g s → connected g (number g s) s t ≡ true → h ≤ t
-
--- That holds of the home and of no other station, and the home is its own home.
+-- The home, and no other station, is the lowest of its number in the connected core of a station, and its own home.
 abbrev pub TheHomeIsTheLowestOfItsCore : Type 0
-TheHomeIsTheLowestOfItsCore = (g : Site) → Lawful g → (s : ℕ) → s < g.size
-    → IsHome g s (home g s) × ((h : ℕ) → IsHome g s h → h ≡ home g s) × (home g (home g s) ≡ home g s)
+TheHomeIsTheLowestOfItsCore = (g : Site) → Lawful g → (s : ℕ) → s < g.size → HomeInWords (number g) (connected g) (home g) s
 
--- u is the up of the home s: it has a smaller number, is a home, has s in its connected core, and no number in between has a station there.
-pub record IsUp (g : Site) (s u : ℕ) : Type 0 where
-  pub of_home : home g s ≡ s
-  pub smaller : number g u < number g s
-  pub at_home : home g u ≡ u
-  pub around : connected g (number g u) s u ≡ true
-  pub nearest : (t : ℕ) → number g u < number g t → number g t < number g s → connected g (number g t) s t ≡ false
-
--- no smaller number has a station in a core around s
-abbrev pub Outermost : Site → ℕ → Type 0
-Outermost g s = (t : ℕ) → number g t < number g s → connected g (number g t) s t ≡ false
-
--- That holds of the up and of no other station; a home has no up exactly if no smaller number has a station in a core around it.
-pub record UpInWords (g : Site) (s : ℕ) : Type 0 where
-  pub is : (u : ℕ) → up g s ≡ Some u → IsUp g s u
-  pub only : (u : ℕ) → IsUp g s u → up g s ≡ Some u
-  pub missing : up g s ≡ None → home g s ≡ s → Outermost g s
-  pub outermost : Outermost g s → up g s ≡ None
-
+-- The up of a home, and no other station, is the home of the nearest core around it that has one.
 abbrev pub TheUpIsTheNearestHomeBelow : Type 0
-TheUpIsTheNearestHomeBelow = (g : Site) → Lawful g → (s : ℕ) → UpInWords g s
+TheUpIsTheNearestHomeBelow = (g : Site) → Lawful g → (s : ℕ) → UpInWords (number g) (connected g) (home g) (up g) s

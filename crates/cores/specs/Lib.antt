@@ -2,6 +2,7 @@ pub mod Counting
 pub mod Site
 pub mod Laws
 pub mod Numbers
+pub mod Homes
 pub mod Forest
 pub mod Drawing
 pub mod Orders

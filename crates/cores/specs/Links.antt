@@ -31,17 +31,22 @@ pub record Moved (old new : Site) (a b s : ℕ) : Type 0 where
   pub smaller : number old s ≡ min (number old a) (number old b)
   pub hangs : (end : ℕ) × ((end ≡ a) ⊎ (end ≡ b)) × Chain (parted old a b) (moves old new) s end
 
--- With one link more, a station keeps its number, or moves up by one.
+-- A station keeps its number, or it goes up by one and moves as said.
+abbrev pub MovesUp : Site → Site → ℕ → ℕ → Type 0
+MovesUp old new a b = (s : ℕ) → s < old.size → (number new s ≡ number old s) ⊎ ((number new s ≡ number old s + 1) × Moved old new a b s)
+
+-- A station keeps its number, or it goes down by one and moves as said.
+abbrev pub MovesDown : Site → Site → ℕ → ℕ → Type 0
+MovesDown old new a b = (s : ℕ) → s < old.size → (number new s ≡ number old s) ⊎ ((number old s ≡ number new s + 1) × Moved old new a b s)
+
+-- With one link more, stations move up.
 abbrev pub OneLinkMoreLiftsByOne : Type 0
 OneLinkMoreLiftsByOne = (g : Site) → Lawful g → (a b : ℕ) → a < g.size → b < g.size → (a ≢ b) → g.linked a b ≡ false
-    → (s : ℕ) → s < g.size
-    → (number (joined g a b) s ≡ number g s) ⊎ ((number (joined g a b) s ≡ number g s + 1) × Moved g (joined g a b) a b s)
+    → MovesUp g (joined g a b) a b
 
--- With one link less, a station keeps its number, or moves down by one.
+-- With one link less, stations move down.
 abbrev pub OneLinkLessLowersByOne : Type 0
-OneLinkLessLowersByOne = (g : Site) → Lawful g → (a b : ℕ) → g.linked a b ≡ true
-    → (s : ℕ) → s < g.size
-    → (number (parted g a b) s ≡ number g s) ⊎ ((number g s ≡ number (parted g a b) s + 1) × Moved g (parted g a b) a b s)
+OneLinkLessLowersByOne = (g : Site) → Lawful g → (a b : ℕ) → g.linked a b ≡ true → MovesDown g (parted g a b) a b
 
 -- A lawful site stays lawful.
 abbrev pub OneLinkMoreOrLessIsLawful : Type 0

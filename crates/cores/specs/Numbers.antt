@@ -57,11 +57,13 @@ abbrev pub CoreSetsAreNested : Type 0
 CoreSetsAreNested = (g : Site) (s : ℕ)
     → (s < g.size → in_core g 0 s ≡ true) × ((j k : ℕ) → j ≤ k → in_core g k s ≡ true → in_core g j s ≡ true)
 
--- The number of a station is the greatest k for which some group holds it and lets every member hear at least k others of the group.
+-- k is the greatest for which some group holds s and lets every member hear at least k others of the group.
+abbrev pub IsGreatest : Site → ℕ → ℕ → Type 0
+IsGreatest g s k = ((X : Group) × (X s ≡ true) × IsSteady g k X) × ((j : ℕ) (X : Group) → X s ≡ true → IsSteady g j X → j ≤ k)
+
+-- The number of a station is that greatest k.
 abbrev pub TheNumberIsTheGreatest : Type 0
-TheNumberIsTheGreatest = (g : Site) (s : ℕ) → s < g.size
-    → ((X : Group) × (X s ≡ true) × IsSteady g (number g s) X)
-    × ((k : ℕ) (X : Group) → X s ≡ true → IsSteady g k X → k ≤ number g s)
+TheNumberIsTheGreatest = (g : Site) (s : ℕ) → s < g.size → IsGreatest g s (number g s)
 
 -- The k-core set is all stations of number k or more.
 abbrev pub TheCoreSetIsByNumber : Type 0

@@ -7,7 +7,7 @@ ghost use Rattle.cores.specs.Numbers.{TheSearchTriesEveryGroup, TheCoreSetIsTheL
 ghost use Rattle.cores.specs.Forest.{ConnectedMeansAChain, ConnectedCoresPartTheCoreSet, TheHomeIsTheLowestOfItsCore, TheUpIsTheNearestHomeBelow};
 ghost use Rattle.cores.specs.Drawing.{TheDrawnOrderRemovesTheFewestFirst, NumbersAreTheGreatestCountsMet};
 ghost use Rattle.cores.specs.Orders.{RightfulHoldsAtEachPlace, TheDrawnOrderIsRightful, AfterIsTheRestBehind, AtFaultIsJudgedAtItsPlace, FaultlessMeansCoreNumbersInARightfulOrder};
-ghost use Rattle.cores.specs.ByNumbers.{ConnectedByNumbersMeansAChain, ByCoreNumbersTheyAreThoseOfTheSite};
+ghost use Rattle.cores.specs.ByNumbers.{ConnectedByNumbersMeansAChain, TheHomeByNumbersIsTheLowestOfItsCore, TheUpByNumbersIsTheNearestHomeBelow, ByCoreNumbersTheyAreThoseOfTheSite};
 ghost use Rattle.cores.specs.Links.{MovingIsHavingAnotherNumber, OneLinkMoreLiftsByOne, OneLinkLessLowersByOne, OneLinkMoreOrLessIsLawful, OneLinkMoreAndLessUndoEachOther};
 
 /// All numbers pass a test if each does, and some do if one does.
@@ -139,6 +139,16 @@ pub fn faultless_means_core_numbers()
 /// Connected at k by a table of numbers means that a chain of stations that have k or more leads from one to the other.
 pub fn connected_by_numbers_means_a_chain()
     ensures { ConnectedByNumbersMeansAChain }
+{}
+
+/// The home by a table of numbers is the lowest station of the same number in the core by that table, and its own home.
+pub fn home_by_numbers_is_lowest_of_its_core()
+    ensures { TheHomeByNumbersIsTheLowestOfItsCore }
+{}
+
+/// The up of a home by a table of numbers is the home of the nearest core by that table around it that has one.
+pub fn up_by_numbers_is_nearest_home_below()
+    ensures { TheUpByNumbersIsTheNearestHomeBelow }
 {}
 
 /// By the core numbers, homes and ups are those of the site.

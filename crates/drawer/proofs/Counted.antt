@@ -1,5 +1,5 @@
 -- The table of the remaining stations: filled at first, and lowered as a station is removed.
-use Rattle.std.proofs.Common.{◌≡◌, ℕ, zero, suc, ◌+◌, ◌-◌, ◌<◌, ◌≤◌, true, cond, ◌&&◌, not, ltb, eqb, Some, None, Option, List, [], ◌∷◌, length, get_or-set_same, get_or-set_other, set, replicate, refl, ap, ◌∙◌, inl, inr, le_antisymm, arith}
+use Rattle.std.proofs.Common.{◌≡◌, ℕ, zero, suc, ◌+◌, ◌-◌, ◌<◌, ◌≤◌, true, cond, ◌&&◌, not, ltb, eqb, Some, None, Option, List, [], ◌∷◌, length, get_or, get_or-set_same, get_or-set_other, set, replicate, refl, ap, ◌∙◌, inl, inr, le_antisymm, arith}
 use Rattle.std.proofs.lemmas.Bool.{cases_eq}
 use Rattle.cores.specs.Counting.{bit, count, times}
 use Rattle.cores.specs.Site.{Site, Lawful}
@@ -13,13 +13,14 @@ use Rattle.drawer.specs.Peeling.{entry, there, Counts}
 abbrev pub FilledTo : (ℕ → ℕ) → ℕ → List (Option ℕ) → Type 0
 FilledTo f i table = (t : ℕ) → entry table t ≡ cond (ltb t i) (Some (f t)) None
 
+-- a table of nothing
+pub blank : {A : Type 0} (n t : ℕ) → get_or {A = Option A} (replicate n None) t None ≡ None
+blank zero t = refl
+blank (suc n) zero = refl
+blank (suc n) (suc t) = blank n t
+
 pub filled_none : (f : ℕ → ℕ) (n : ℕ) → FilledTo f 0 (replicate n None)
-filled_none f n t = let none = blank n t in grind arith
-  where
-    blank : (n t : ℕ) → entry (replicate n None) t ≡ None
-    blank zero t = refl
-    blank (suc n) zero = refl
-    blank (suc n) (suc t) = blank n t
+filled_none f n t = let none = blank {A = ℕ} n t in grind arith
 
 pub filled_more : (f : ℕ → ℕ) (i v : ℕ) (table : List (Option ℕ)) → i < length table → v ≡ f i → FilledTo f i table → FilledTo f (i + 1) (set table i (Some v))
 filled_more f i v table h is filled t = let before = filled t in elim (cases_eq t i) [

@@ -1,5 +1,4 @@
-mod Least
-mod Keyed
+mod Fewest
 mod Counted
 mod Peels
 mod Peaks

@@ -71,26 +71,27 @@ module _ (g : Site) where
     -- the least removal is that of the station at place i
     pub least_is_next : (r : Removal) → IsLeast table (Some r)
         → (i < g.size) × (r ≡ removal g (left (drawn g) i) (get_or (drawn g) i 0)) × (r.station < g.size) × (there table r.station ≡ true)
-    least_is_next r (here, least) =
+    least_is_next r (_, some) =
+        let (here, least) = some r refl in
         let (remains, heard) = entry_there r.station r.left here in
         let (on_site, still_left) = remaining_parts i r.station remains in
         let more : i < g.size = elim (cases_lt i g.size) [ inl less ↦ less | inr more ↦ let end : i ≡ g.size = omega arith in absurd (both_ways (remaining g.size r.station) (none_remains r.station) (rw end at remains)) ] in
         let first : IsNext g (left (drawn g) i) r.station = record {
           on_site = on_site;
           member = still_left;
-          fewest = λ t h x. elim (least t _ (there_entry t h x)) [ inl fewer ↦ omega (arith, heard) | inr (same, lower) ↦ omega (arith, heard, same) ];
-          lowest = λ t h x d. elim (least t _ (there_entry t h x)) [ inl fewer ↦ absurd (omega (arith, heard, d)) | inr (same, lower) ↦ lower ];
+          fewest = λ t h x. omega (arith, heard, (least t _ (there_entry t h x)).0);
+          lowest = λ t h x d. (least t _ (there_entry t h x)).1 (heard ∙ sym d);
         } in
         let at : r.station ≡ get_or (drawn g) i 0 = next_only g (left (drawn g) i) r.station (get_or (drawn g) i 0) first ((drawn_is g).in_turn i (omega (arith, drawn_length))) in
         (more, ap₂ (λ k m. record { left = k; station = m }) (heard ∙ ap (hears g (left (drawn g) i)) at) at, on_site, grind arith)
 
     -- there is one as long as some are left
     pub none_at_the_end : IsLeast table None → i ≡ g.size
-    none_at_the_end none = elim (cases_lt i g.size) [
+    none_at_the_end (none, _) = elim (cases_lt i g.size) [
       | inl less ↦
           let p = (drawn_is g).in_turn i (omega (arith, drawn_length)) in
           let here = there_entry (get_or (drawn g) i 0) p.on_site p.member in
-          let gone = none (get_or (drawn g) i 0) in
+          let gone = none refl (get_or (drawn g) i 0) in
           absurd (grind arith)
       | inr more ↦ omega arith
     ]

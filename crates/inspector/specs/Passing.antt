@@ -1,9 +1,9 @@
 -- What the verdicts of the inspector mean, in words. Assumes nothing.
-use Rattle.std.specs.Prelude.{◌≡◌, ◌≢◌, ℕ, ◌<◌, ◌≤◌, true, false, List, Ok, Err, slice_index}
+use Rattle.std.specs.Prelude.{◌≡◌, ◌≢◌, ℕ, ◌<◌, true, false, List, Ok, Err, slice_index}
 use Rattle.refusals.specs.declared.Refusal.{Refusal}
 use Rattle.refusals.specs.declared.Refusal.TheVariants.{CountOutOfRange, NotASheet, CountsDiffer, StationAtFault, HomeOrUpWrong}
 use Rattle.cores.specs.Site.{Site, Lawful, sized}
-use Rattle.cores.specs.Numbers.{Group, number, IsSteady}
+use Rattle.cores.specs.Numbers.{number, IsGreatest}
 use Rattle.cores.specs.Forest.{home, up}
 use Rattle.cores.specs.Orders.{rightful, CoreNumbers}
 use Rattle.sheet.specs.Plans.{Plan, stations, entry}
@@ -34,11 +34,7 @@ WhatPassesIsForTheSite = (g : Site) → Lawful g → (bytes : List ℕ)
 abbrev pub TheSheetOfASitePasses : Type 0
 TheSheetOfASitePasses = (g : Site) → Lawful g → sized g.size ≡ true → inspected g (sheet_of g) ≡ Ok tt
 
--- k is the greatest for which some group holds s and lets every member hear at least k others of the group.
-abbrev pub IsGreatest : Site → ℕ → ℕ → Type 0
-IsGreatest g s k = ((X : Group) × (X s ≡ true) × IsSteady g k X) × ((j : ℕ) (X : Group) → X s ≡ true → IsSteady g j X → j ≤ k)
-
--- Each number of a sheet that passes is that greatest k of its station.
+-- Each number of a sheet that passes is the greatest k for which some group holds its station and lets every member hear at least k others of the group.
 abbrev pub PassedNumbersAreTheGreatest : Type 0
 PassedNumbersAreTheGreatest = (g : Site) → Lawful g → (bytes : List ℕ) (p : Plan) → inspected g bytes ≡ Ok tt → decode bytes ≡ Ok p
     → (s : ℕ) → s < g.size → IsGreatest g s (slice_index p.numbers s)

@@ -1,3 +1,4 @@
+pub mod Bounded
 pub mod Links
 pub mod Heard
 pub mod Tops

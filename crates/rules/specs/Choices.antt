@@ -1,17 +1,17 @@
 -- Which level of a site is chosen. Assumes nothing.
-use Rattle.std.specs.Prelude.{◌≡◌, ℕ, ◌≤◌, true, false, cond, Option, Ok, Err, Result}
-use Rattle.std.specs.Option.{option_map, option_map_or}
-use Rattle.std.specs.List.{filter_map, enumerate_from, reduce}
+use Rattle.std.specs.Prelude.{◌≡◌, ℕ, suc, ◌≤◌, Bool, true, false, not, cond, Some, None, Option, Ok, Err, Result}
+use Rattle.std.specs.Option.{option_map}
 use Rattle.std.specs.declared.cmp.Ordering.{Ordering}
 use Rattle.std.specs.declared.cmp.Ordering.TheVariants.{Equal}
-use Rattle.std.specs.Ordering.{is_gt, max_by_ordering}
+use Rattle.std.specs.Ordering.{is_gt}
 use Rattle.refusals.specs.declared.Refusal.{Refusal}
 use Rattle.refusals.specs.declared.Refusal.TheVariants.{CountOutOfRange}
 use Rattle.rules.specs.declared.counts.Counts.{Counts}
 use Rattle.rules.specs.declared.tally.Tally.{Tally}
+use Rattle.cores.specs.Counting.{some, greatest}
 use Rattle.cores.specs.Site.{Site, Lawful, sized}
 use Rattle.cores.specs.Numbers.{in_core}
-use Rattle.rules.specs.Levels.{counts_of, top, levels}
+use Rattle.rules.specs.Levels.{counts_of, top}
 use Rattle.rules.specs.Tallies.{counts_in, tally_of}
 use Rattle.rules.specs.Orders.{LawfulOrder}
 
@@ -19,17 +19,19 @@ use Rattle.rules.specs.Orders.{LawfulOrder}
 abbrev pub score_of : {Score : Type 0} → (Tally → Score) → Counts → Option Score
 score_of score level = option_map score (tally_of level)
 
--- the score of a level that comes with its number, with that number
-abbrev pub scored : {Score : Type 0} → (Tally → Score) → ℕ × Counts → Option (ℕ × Score)
-scored score level = option_map (λ s. (level.0, s)) (score_of score level.1)
+-- does one score stand above another? Not where a level has no score
+abbrev pub is_above : {Score : Type 0} → (Score → Score → Ordering) → Option Score → Option Score → Bool
+is_above order (Some a) (Some b) = is_gt (order a b)
+is_above order (Some a) None = false
+is_above order None b = false
 
--- of two levels with their scores, the one that stands above, and the second where they are level
-abbrev pub better : {Score : Type 0} → (Score → Score → Ordering) → ℕ × Score → ℕ × Score → ℕ × Score
-better order a b = max_by_ordering (order a.1 b.1) a b
+-- does level j of a site score above level k
+abbrev pub scores_above : {Score : Type 0} → Site → (Tally → Score) → (Score → Score → Ordering) → ℕ → ℕ → Bool
+scores_above g score order j k = is_above order (score_of score (counts_of g (in_core g j))) (score_of score (counts_of g (in_core g k)))
 
--- the level that is chosen: the best of the levels from 0 up
+-- the level that is chosen: the greatest that no level scores above
 abbrev pub choice : {Score : Type 0} → Site → (Tally → Score) → (Score → Score → Ordering) → ℕ
-choice g score order = option_map_or (λ best. best.0) (reduce (better order) (filter_map (scored score) (enumerate_from 0 (levels g)))) 0
+choice g score order = greatest (top g) (λ k. not (some (suc (top g)) (λ j. scores_above g score order j k)))
 
 -- what choose answers
 abbrev pub choice_answer : {Score : Type 0} → Site → (Tally → Score) → (Score → Score → Ordering) → Result ℕ Refusal

@@ -1,5 +1,5 @@
 -- What the rules score, and how their scores are ordered. Assumes nothing.
-use Rattle.std.specs.Prelude.{◌*◌, ℤ, pos, ◌-ℤ◌}
+use Rattle.std.specs.Prelude.{◌*◌, ◌<◌, ℤ, pos, ◌-ℤ◌, ◌+ℤ◌, ◌≤ℤ◌}
 use Rattle.std.specs.declared.cmp.Ordering.{Ordering}
 use Rattle.std.specs.Ordering.{nat_cmp, ordering_then}
 use Rattle.rules.specs.declared.tally.Tally.{Tally}
@@ -19,6 +19,11 @@ by_fraction a b = nat_cmp (a.numerator * b.denominator) (b.numerator * a.denomin
 -- gain × inside − boundary cost × boundary − member cost × members
 abbrev pub net : Net → Tally → ℤ
 net rule tally = let c = counts_in tally in (pos (rule.inside_gain * c.inside) -ℤ pos (rule.boundary_cost * c.boundary)) -ℤ pos (rule.member_cost * c.members)
+
+-- With weights of 16 bits, a score of Net lies between −4,328,455,680 and 8,573,026,560.
+abbrev pub ScoresOfNetAreBounded : Type 0
+ScoresOfNetAreBounded = (rule : Net) → rule.inside_gain < 65536 → rule.boundary_cost < 65536 → rule.member_cost < 65536 → (tally : Tally)
+    → (pos 0 ≤ℤ (net rule tally +ℤ pos 4328455680)) × (net rule tally ≤ℤ pos 8573026560)
 
 -- the scores of a tally by two rules
 abbrev pub paired : {S T : Type 0} → (Tally → S) → (Tally → T) → Tally → Pair S T

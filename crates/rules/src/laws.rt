@@ -1,6 +1,7 @@
 //! The laws of the levels, each on a contract of its own.
 
 ghost use Rattle.rules.specs.Levels.{TheTopIsTheGreatestNumber, TheBottomLevelIsTheWholeSite, MembersHearInsideLinksTwiceAndBoundaryLinksOnce, EveryLevelIsWithinTheLimits};
+ghost use Rattle.rules.specs.Scores.{ScoresOfNetAreBounded};
 ghost use Rattle.rules.specs.Choices.{TheChoiceIsBest, OnlyOneIsChosen};
 
 /// The top is the greatest number of a station.
@@ -21,6 +22,11 @@ pub fn members_hear_inside_links_twice()
 /// The counts of every level are within the limits of a tally.
 pub fn levels_are_within_limits()
     ensures { EveryLevelIsWithinTheLimits }
+{}
+
+/// The scores of `Net` are bounded, as its weights and the counts of a tally are.
+pub fn scores_of_net_are_bounded()
+    ensures { ScoresOfNetAreBounded }
 {}
 
 /// The level that is chosen has a tally, no level scores above it, and it is the greatest of those that score level with

@@ -9,7 +9,7 @@ use Rattle.cores.specs.Forest.{home, up}
 use Rattle.cores.specs.Drawing.{drawn}
 use Rattle.cores.proofs.Sums.{once_length}
 use Rattle.cores.proofs.Numbers.{number_below}
-use Rattle.cores.proofs.Forest.{connected_on_site, home_is, up_in_words}
+use Rattle.cores.proofs.Forest.{connected_on_site, home_in_words, up_in_words}
 use Rattle.cores.proofs.Drawing.{drawn_is}
 use Rattle.sheet.specs.Plans.{Fits, WellFormed, stations, entry}
 use Rattle.sheet.specs.Sites.{plan_of, PlansOfSitesAreWellFormed}
@@ -29,7 +29,7 @@ module _ (g : Site) (law : Lawful g) where
   unfolding plan_of
   fits s h = record {
     number = rw (at (number g) s 0 h) (number_below g law s h);
-    home = rw (at (home g) s 0 h) (connected_on_site g law (number g s) s (home g s) (home_is g law s h).together);
+    home = rw (at (home g) s 0 h) (connected_on_site g law (number g s) s (home g s) (home_in_words g law s h).0.together);
     up = λ u e.
         let is = (up_in_words g law s).is u (sym (at (up g) s None h) ∙ e) in
         (connected_on_site g law (number g u) s u is.around, at (home g) s 0 h ∙ is.of_home);

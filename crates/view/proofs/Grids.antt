@@ -1,5 +1,5 @@
 -- Rows of bits that are sound show a lawful site.
-use Rattle.std.proofs.Common.{◌≡◌, ℕ, ◌+◌, ◌-◌, ◌*◌, ◌/◌, ◌%◌, ◌^◌, ◌<◌, ◌≤◌, true, false, ◌&&◌, eqb, [], Some, None, Option, length, filter, is_ok, get_or, take, sym, refl, ap, ◌∙◌, inl, inr, arith}
+use Rattle.std.proofs.Common.{◌≡◌, ℕ, ◌+◌, ◌-◌, ◌*◌, ◌/◌, ◌%◌, ◌^◌, ◌<◌, ◌≤◌, true, false, ◌&&◌, eqb, List, [], Some, None, Option, length, filter, is_ok, get_or, take, sym, refl, ap, ◌∙◌, inl, inr, arith}
 use Rattle.std.proofs.Math.ListN.{get_or-eq_default, drop_of_length-le}
 use Rattle.std.proofs.Math.Nat.{add-mul, mul-le-mul_right}
 use Rattle.std.proofs.Math.Seq.{take-nil}
@@ -11,7 +11,7 @@ use Rattle.std.specs.List.{range_with_len}
 use Rattle.cores.specs.Counting.{lowest}
 use Rattle.cores.specs.Site.{Lawful}
 use Rattle.cores.proofs.Searches.{same_test, some_at, lowest_at}
-use Rattle.view.specs.Bits.{bit_set, ones_from}
+use Rattle.view.specs.Bits.{bit_set, one_at, ones_from}
 use Rattle.view.specs.Rows.{Faithful, each_neighbour}
 use Rattle.view.specs.Grid.{Bitmap, row_length, shaped, row_bytes, cell, no_neighbour, bad_row, sound, site_of}
 use Rattle.view.specs.GridChecked.{checked}
@@ -59,12 +59,11 @@ unfolding cell
 cell_at b s t byte e = rw e refl
 
 -- a bit by the place of its byte, and its place in that byte
-pub cell_in : (b : Bitmap) (s k i : ℕ) → i < 8 → cell b s (0 + 8 * k + i) ≡ bit_set (get_or (row_bytes b s) k 0) i
-unfolding cell
-cell_in b s k i h =
+pub bit_in : (row : List ℕ) (k i : ℕ) → i < 8 → one_at row (0 + 8 * k + i) ≡ bit_set (get_or row k 0) i
+bit_in row k i h =
     let byte : (0 + 8 * k + i) / 8 ≡ k = omega arith in
     let place : (0 + 8 * k + i) % 8 ≡ i = omega arith in
-    ap (λ n. bit_set (get_or (row_bytes b s) n 0) ((0 + 8 * k + i) % 8)) byte ∙ ap (bit_set (get_or (row_bytes b s) k 0)) place
+    ap (λ n. bit_set (get_or row n 0) ((0 + 8 * k + i) % 8)) byte ∙ ap (bit_set (get_or row k 0)) place
 
 -- where the rows are sound, a bit that is set is for a neighbour
 module _ (b : Bitmap) (ok : sound b ≡ true) where
@@ -113,20 +112,22 @@ module _ (b : Bitmap) (ok : sound b ≡ true) where
   pub grid_faithful : Faithful (site_of b) (each_neighbour (site_of b))
   grid_faithful = each_faithful (site_of b) lawful
 
-  -- the neighbours of a station, read from the bytes of its row
-  pub row_listed : (s : ℕ) → each_neighbour (site_of b) s ≡ ones_from 0 (row_bytes b s)
-  unfolding ones_from
-  row_listed s = elim (cases_lt s b.stations) [
+  -- the neighbours of a station are the bits of its row that are set
+  pub row_bits : (s : ℕ) → each_neighbour (site_of b) s ≡ filter (one_at (row_bytes b s)) (range_with_len 0 (8 * length (row_bytes b s)))
+  unfolding cell
+  row_bits s = elim (cases_lt s b.stations) [
     | inl on ↦
         let (enough, _) = bits_enough b.stations in
-        let size = row_on b sound_shaped s on in
         sym (kept_longer (cell b s) b.stations (8 * row_length b.stations) enough (λ t h. false_from_ne_true _ (λ y. let to = (linked_cell s t y).1.on_site in absurd (omega arith))))
-        ∙ ap (λ n. filter (cell b s) (range_with_len 0 (8 * n))) (sym size)
-        ∙ bytes_listed (cell b s) (row_bytes b s) 0 (λ k i h l. cell_in b s k i l)
+        ∙ ap (λ n. filter (cell b s) (range_with_len 0 (8 * n))) (sym (row_on b sound_shaped s on))
     | inr off ↦
         none_kept (cell b s) 0 b.stations (λ t h. false_from_ne_true _ (λ y. let from = (linked_cell s t y).0 in absurd (omega arith)))
-        ∙ ap (ones_from 0) (sym (row_off b sound_shaped s off))
+        ∙ ap (λ n. filter (cell b s) (range_with_len 0 (8 * length n))) (sym (row_off b sound_shaped s off))
   ]
+
+  -- read a byte at a time
+  pub row_listed : (s : ℕ) → each_neighbour (site_of b) s ≡ ones_from 0 (row_bytes b s)
+  row_listed s = row_bits s ∙ bytes_listed (one_at (row_bytes b s)) (row_bytes b s) 0 (λ k i h l. bit_in (row_bytes b s) k i l)
 
 -- rows that pass are sound
 pub grid_passed : (b : Bitmap) → is_ok (checked b) ≡ true → sound b ≡ true

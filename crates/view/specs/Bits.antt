@@ -1,11 +1,15 @@
 -- The bits that are set in bytes. Assumes nothing.
-use Rattle.std.specs.Prelude.{ℕ, ◌+◌, Bool, List, [], ◌∷◌, ◌++◌, map, filter, ◌==◌}
+use Rattle.std.specs.Prelude.{ℕ, ◌+◌, ◌/◌, ◌%◌, Bool, List, [], ◌∷◌, ◌++◌, map, filter, ◌==◌, slice_index}
 use Rattle.std.specs.Int.{bit_at}
 use Rattle.std.specs.List.{range_with_len}
 
 -- is a bit of a byte set; bit 0 is the lowest
 abbrev pub bit_set : ℕ → ℕ → Bool
 bit_set byte i = bit_at byte i == 1
+
+-- is a bit of a row of bytes set; eight bits are in each
+abbrev pub one_at : List ℕ → ℕ → Bool
+one_at row t = bit_set (slice_index row (t / 8)) (t % 8)
 
 -- the places of the bits of a byte that are set, rising
 unfoldable pub ones_of : ℕ → List ℕ

@@ -1,11 +1,11 @@
 -- The rows of bits that a grid holds. Assumes nothing.
-use Rattle.std.specs.Prelude.{ℕ, ◌+◌, ◌*◌, ◌/◌, ◌%◌, Bool, not, ◌&&◌, ◌||◌, List, length, is_some, Option, ◌==◌, nat_le, slice_index}
+use Rattle.std.specs.Prelude.{ℕ, ◌+◌, ◌*◌, Bool, not, ◌&&◌, ◌||◌, List, length, is_some, Option, ◌==◌, nat_le}
 use Rattle.std.specs.Int.{div_ceil}
 use Rattle.std.specs.List.{between}
 use Rattle.cores.specs.Counting.{some, lowest}
 use Rattle.cores.specs.Site.{Site}
 use Rattle.view.specs.declared.square.Grid.{Grid}
-use Rattle.view.specs.Bits.{bit_set}
+use Rattle.view.specs.Bits.{one_at}
 
 -- Links as rows of bits, one row for each station, each of as many bytes.
 pub record Bitmap : Type 0 where
@@ -30,7 +30,7 @@ row_bytes b s = let from = s * row_length b.stations in between from (from + row
 
 -- does row s say that s and t are linked, in bit t mod 8 of its byte t div 8
 unfoldable pub cell : Bitmap → ℕ → ℕ → Bool
-cell b s t = bit_set (slice_index (row_bytes b s) (t / 8)) (t % 8)
+cell b s t = one_at (row_bytes b s) t
 
 -- station s cannot have t as a neighbour: t is s itself, is not on the site, so that its bit is spare, or does not have s in return
 abbrev pub no_neighbour : Bitmap → ℕ → ℕ → Bool

@@ -20,4 +20,8 @@ impl<V: View> View for &V {
     fn neighbour(&self, s: usize, place: usize) -> Option<usize> {
         (**self).neighbour(s, place)
     }
+
+    fn neighbour_after(&self, s: usize, place: usize, before: usize) -> Option<usize> {
+        (**self).neighbour_after(s, place, before)
+    }
 }

@@ -2,10 +2,9 @@
 #![tactic(auto)]
 
 ghost use Rattle.std.specs.Prelude.{◌≡◌, ℕ, List, length};
-ghost use Rattle.std.specs.List.{slice_get};
+ghost use Rattle.std.specs.List.{slice_get, between};
 ghost use Rattle.cores.specs.Site.{Site};
-ghost use Rattle.view.specs.Rows.{Faithful};
-ghost use Rattle.view.specs.Neighbours.{left};
+ghost use Rattle.view.specs.Rows.{Faithful, StandsBefore};
 
 pub mod counts;
 pub mod forest;
@@ -45,12 +44,21 @@ pub trait View {
     fn neighbour(&self, s: usize, place: usize) -> Option<usize>
         ensures { result ≡ slice_get (row self.now s) place };
 
+    /// The same, asked with the neighbour at the place before in hand; a view may answer it sooner. With another in hand, the
+    /// answer is any.
+    fn neighbour_after(&self, s: usize, place: usize, before: usize) -> Option<usize>
+        ensures { StandsBefore (row self.now s) place before → result ≡ slice_get (row self.now s) place }
+    {
+        self.neighbour(s, place)
+    }
+
     /// The law of a view.
     ghost faithful: { (v : Self) → Faithful (site v) (row v) };
 
+    // `Neighbours.left` written out, since its file builds on the trait
     /// The neighbours of a station, one after the other.
     final fn neighbours(&self, s: usize) -> Neighbours<'_, Self>
-        ensures { left row result ≡ row self.now s }
+        ensures { between result.places.start result.places.end (row result.view.now result.station) ≡ row self.now s }
     {
         Neighbours::new(self, s)
     }

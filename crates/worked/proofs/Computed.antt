@@ -27,7 +27,7 @@ more_table = 3 ∷ 3 ∷ 3 ∷ 3 ∷ 2 ∷ 2 ∷ 2 ∷ 2 ∷ []
 abbrev less_table : List ℕ
 less_table = 2 ∷ 2 ∷ 2 ∷ 2 ∷ 2 ∷ 2 ∷ 2 ∷ 1 ∷ []
 
-eight_lawful : Lawful eight
+pub eight_lawful : Lawful eight
 unfolding fair
 eight_lawful = all_lawful (laid_out 8) (laid_out_lawful 8) _ refl
 

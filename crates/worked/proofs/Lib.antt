@@ -1,2 +1,2 @@
-mod Tables
-mod Computed
+pub mod Tables
+pub mod Computed

@@ -51,7 +51,7 @@ module _ (g : Site) (c : ℕ → ℕ) where
 
   -- they are those of the definitions, where c is the number
   module _ (same : number g ≡ c) where
-    core_same : (k s : ℕ) → in_core g k s ≡ core_by k s
+    pub core_same : (k s : ℕ) → in_core g k s ≡ core_by k s
     unfolding core_by
     core_same k s = by_cases (in_core g k s)
         (λ e. let on = core_on_site g k s e in let by = core_number g k s on in let at = ap (λ f. f s) same in grind arith)

@@ -40,7 +40,7 @@ EightStations = PlanOf eight
 
 -- two times four stations all linked, and a ninth that bridges them
 abbrev pub bridge : Site
-bridge = joined_all (laid_out 9) ((0, 1) ∷ (0, 2) ∷ (0, 3) ∷ (1, 2) ∷ (1, 3) ∷ (2, 3) ∷ (4, 5) ∷ (4, 6) ∷ (4, 7) ∷ (5, 6) ∷ (5, 7) ∷ (6, 7) ∷ (3, 8) ∷ (8, 4) ∷ [])
+bridge = joined_all (laid_out 9) ((0, 1) ∷ (0, 2) ∷ (0, 3) ∷ (1, 2) ∷ (1, 3) ∷ (2, 3) ∷ (4, 5) ∷ (4, 6) ∷ (4, 7) ∷ (5, 6) ∷ (5, 7) ∷ (6, 7) ∷ (8, 3) ∷ (8, 4) ∷ [])
 
 abbrev pub TwoCliquesAndABridge : Type 0
 TwoCliquesAndABridge = PlanOf bridge

@@ -5,10 +5,9 @@ use crate::Refusal;
 
 impl Book {
     ghost use Rattle.std.specs.Prelude.{◌≡◌, true, is_err, Ok};
-    ghost use Rattle.cores.specs.Links.{joined, parted};
+    ghost use Rattle.cores.specs.Links.{joined, parted, MovesUp, MovesDown};
     ghost use Rattle.book.specs.Books.{site};
     ghost use Rattle.book.specs.Answers.{after, ends_judged, full, link_answer, unlink_answer};
-    ghost use Rattle.book.specs.Moves.{MovesUp, MovesDown};
 
     /// Judges the ends of a link.
     fn check_ends(&self, a: usize, b: usize) -> Result<(), Refusal>

@@ -1,8 +1,8 @@
 //! The bits that are set in a row of bytes, counted a byte at a time.
 
-ghost use Rattle.std.specs.Prelude.{◌≡◌, ◌<◌, ◌≤◌, length};
-ghost use Rattle.std.specs.List.{slice_get};
-ghost use Rattle.view.specs.Bits.{bit_set, ones_of, ones_from};
+ghost use Rattle.std.specs.Prelude.{◌≡◌, ◌-◌, ◌*◌, ◌<◌, ◌≤◌, length, find};
+ghost use Rattle.std.specs.List.{slice_get, range_with_len};
+ghost use Rattle.view.specs.Bits.{bit_set, ones_of, ones_from, one_at};
 
 /// Whether a bit of a byte is set.
 #[tactic(auto, using(std::proofs::lemmas::Nat::Bits::shr_and_one))]
@@ -42,6 +42,23 @@ pub(super) fn nth_one(row: &[u8], place: usize) -> Option<usize>
             return Some(8 * index + bit);
         }
         left -= ones;
+    }
+    None
+}
+
+/// The first bit of a row that is set, from a bit on.
+pub(super) fn find_one(row: &[u8], from: usize) -> Option<usize>
+    requires { length row.now ≤ 64 }
+    ensures { result ≡ find (one_at row.now) (range_with_len from (8 * length row.now - from)) }
+{
+    let mut bit = from;
+    while bit < 8 * row.len() {
+        let rest = row[bit / 8] >> (bit % 8);
+        if rest != 0 {
+            // a cast, as Rust has no `From<u32>` for `usize`
+            return Some(bit + rest.trailing_zeros() as usize);
+        }
+        bit = 8 * (bit / 8 + 1);
     }
     None
 }

@@ -1,5 +1,5 @@
-use Rattle.cores.proofs.Forest.{home_lowest}
+use Rattle.cores.proofs.Forest.{home_in_words}
 use Rattle.cores.proofs.laws.home_is_lowest_of_its_core.Goals as goal
 
 pub returns : goal.returns
-returns c = home_lowest
+returns c = home_in_words

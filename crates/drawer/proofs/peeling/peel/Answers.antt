@@ -16,6 +16,12 @@ bounds-out-place g c =
     let next = least_is_next (g.V.View.site c.args.view.now) c.loop-removal.place c.loop-removal.remaining.left low counted c.in-Some.removal c.in-Some.ensures in
     omega (arith, next.0, c.requires.room)
 
+pub remove-requires-clause-on_site : goal.remove-requires-clause-on_site
+remove-requires-clause-on_site g c =
+    let (low, long, noted, same, counted) = c.loop-removal.invariant in
+    let next = least_is_next (g.V.View.site c.args.view.now) c.loop-removal.place c.loop-removal.remaining.left low counted c.in-Some.removal c.in-Some.ensures in
+    rw same next.2
+
 pub loop-removal-smaller : goal.loop-removal-smaller
 loop-removal-smaller g c =
     let (low, long, noted, same, counted) = c.loop-removal.invariant in

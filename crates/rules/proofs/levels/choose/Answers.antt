@@ -1,11 +1,11 @@
-use Rattle.std.proofs.Common.{◌≡◌, Ok, sym, refl, ap, ◌∙◌, take, replicate, rules, tests}
+use Rattle.std.proofs.Common.{◌≡◌, Ok, sym, ap, ◌∙◌, take, replicate, rules, tests}
 use Rattle.std.proofs.lemmas.Iterator.{YieldsList-from_slice}
 use Rattle.std.proofs.lemmas.Iterator.Consumers.{YieldsList-from_filter_map, YieldsList-from_enumerate, YieldsList-at}
 use Rattle.std.specs.Option.{option_map_or}
 use Rattle.rules.specs.Levels.{levels}
-use Rattle.rules.specs.Choices.{scored}
 use Rattle.rules.proofs.Tabled.{counted_out, written_out, levels_few}
 use Rattle.rules.proofs.Bests.{best_by_call, map_or_is}
+use Rattle.rules.proofs.Chosen.{scored, folded_is}
 use Rattle.rules.proofs.levels.choose.Goals as goal
 
 pub returns-in_err-levels : goal.returns-in_err-levels
@@ -25,4 +25,5 @@ returns g c =
     (λ x r q k. search (rules, tests)))
     in
     let chosen : c.map_or.result ≡ option_map_or (λ b. b.0) c.max_by-best.result 0 = map_or_is c.max_by-best.result c.map_or.result 0 (λ b. b.0) _ (λ x k. search (rules, tests)) c.map_or.ensures in
-    rw small (ap Ok (chosen ∙ ap (λ o. option_map_or (λ b. b.0) o 0) best ∙ rw are refl))
+    let is = folded_is site (g.R.Rule.scores c.args.rule.now) (g.R.Rule.orders c.args.rule.now) (g.met.R.Rule.lawful c.args.rule.now) (g.met.V.View.faithful view).lawful small in
+    rw small (ap Ok (chosen ∙ ap (λ o. option_map_or (λ b. b.0) o 0) best ∙ rw are is))

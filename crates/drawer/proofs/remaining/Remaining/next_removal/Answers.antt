@@ -1,13 +1,16 @@
-use Rattle.std.proofs.Common.{rules, tests}
-use Rattle.std.proofs.lemmas.Iterator.{YieldsList-from_slice}
-use Rattle.std.proofs.lemmas.Iterator.Consumers.{YieldsList-from_filter_map, YieldsList-from_enumerate, YieldsList-at}
-use Rattle.drawer.proofs.Least.{entry_removal, least_of_table, table_removals}
-use Rattle.drawer.proofs.Keyed.{least_by_key}
+use Rattle.std.proofs.Common.{◌≡◌, length, refl, rules}
+use Rattle.drawer.proofs.Fewest.{nobody_is_there, first_is_least}
 use Rattle.drawer.proofs.remaining.Remaining.next_removal.Goals as goal
+
+pub returns-in_err-left : goal.returns-in_err-left
+returns-in_err-left g c =
+    let self = c.args.self.now in
+    let long : length self.left ≡ 512 = search rules in
+    rw c.from_residual.ensures (λ e. nobody_is_there self.left self.fewest long self.kept c.in_err-left.ensures, λ r e. absurd cc)
 
 pub returns : goal.returns
 returns g c =
-    let table = c.args.self.now.left in
-    least_of_table table c.min_by_key.result (least_by_key _ _ (λ x k q called. search (rules, tests)) _ c.min_by_key.result (table_removals 0 table) c.min_by_key.ensures.ran
-    (YieldsList-from_filter_map _ entry_removal (YieldsList-at c.filter_map.ensures.source (YieldsList-from_enumerate (YieldsList-at c.enumerate.ensures.source (YieldsList-from_slice table c.iter.ensures.rest)) c.enumerate.ensures.count)) c.filter_map.ensures.closure
-    (λ x b q k. search (rules, tests))))
+    let self = c.args.self.now in
+    let long : length self.left ≡ 512 = search rules in
+    let low = (c.in_ok-left.ensures.1 c.in_ok-left.left refl).1 in
+    first_is_least self.left self.fewest long self.kept _ c.first_with-block.result low c.first_with-block.ensures.first c.first_with-station.ensures.has c.first_with-station.ensures.first
