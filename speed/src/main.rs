@@ -183,10 +183,39 @@ struct Steps {
     taken: Vec<Step>,
     /// Single links of the full site taken away and set again.
     toggled: Vec<Step>,
+    /// Single links of the full site taken away, and others set that are drawn by lot.
+    exchanged: Vec<Step>,
 }
+
+/// How often single links are taken away and set again at most, to spend the time that setting all of them takes.
+const ROUNDS: f64 = 40.0;
 
 fn steps(links: &[(u16, u16)], sets: bool) -> Vec<Step> {
     links.iter().map(|(a, b)| Step { sets, a: *a, b: *b }).collect()
+}
+
+/// Links taken away by lot one after the other, each with another set in its place that is allowed.
+fn exchanges(stations: usize, mut links: Vec<(u16, u16)>, count: usize, dice: &mut Dice) -> Vec<Step> {
+    let mut rows = vec![Vec::new(); stations];
+    for (a, b) in &links {
+        rows[usize::from(*a)].push(*b);
+        rows[usize::from(*b)].push(*a);
+    }
+    let mut steps = Vec::new();
+    while steps.len() < 2 * count {
+        let (a, b) = (dice.below(stations), dice.below(stations));
+        if a == b || rows[a].contains(&(b as u16)) || rows[a].len() == 32 || rows[b].len() == 32 {
+            continue;
+        }
+        let place = dice.below(links.len());
+        let (c, d) = std::mem::replace(&mut links[place], (a as u16, b as u16));
+        rows[usize::from(c)].retain(|t| *t != d);
+        rows[usize::from(d)].retain(|t| *t != c);
+        rows[a].push(b as u16);
+        rows[b].push(a as u16);
+        steps.extend([Step { sets: false, a: c, b: d }, Step { sets: true, a: a as u16, b: b as u16 }]);
+    }
+    steps
 }
 
 impl Steps {
@@ -201,7 +230,8 @@ impl Steps {
             let (a, b) = links[dice.below(links.len())];
             [Step { sets: false, a, b }, Step { sets: true, a, b }]
         });
-        Steps { toggled: toggled.collect(), taken: steps(&links, false), built, set }
+        let (toggled, exchanged) = (toggled.collect(), exchanges(site.stations(), links.clone(), 1_000, dice));
+        Steps { toggled, exchanged, taken: steps(&links, false), built, set }
     }
 }
 
@@ -230,17 +260,21 @@ struct Stepped {
     built: Line,
     /// None where the set-up takes so much longer that the difference says nothing.
     taken: Option<Line>,
+    /// Of a link taken away and another set, both together.
+    exchanged: Line,
     /// Of a link taken away and set again, both together.
     toggled: Line,
 }
 
 fn measure_steps(case: &Case, dice: &mut Dice) -> Stepped {
     let stations = case.site.stations();
-    let Steps { built, set, taken, toggled } = Steps::of(&case.site, dice);
+    let Steps { built, set, taken, toggled, exchanged } = Steps::of(&case.site, dice);
     let apart = [&set[..], &taken].concat();
-    let by_turns = [&set[..], &toggled].concat();
+    let mut by_turns = [&set[..], &toggled].concat();
+    let others = [&set[..], &exchanged].concat();
     compare_numbers(&case.name, stations, &[&built[..], &taken].concat(), if stations == 64 { 1 } else { 1_499 });
     compare_numbers(&case.name, stations, &by_turns, if stations == 64 { 17 } else { 1_499 });
+    compare_numbers(&case.name, stations, &others, if stations == 64 { 17 } else { 1_499 });
     let mut numbers = vec![0; stations];
     let mut run = |steps: &[Step]| time(|| rattle::book(stations, steps, &mut numbers));
     let by_hand = |before: &[Step], steps: &[Step]| {
@@ -248,23 +282,28 @@ fn measure_steps(case: &Case, dice: &mut Dice) -> Stepped {
         carry_out(&mut book, before);
         time(|| carry_out(&mut book, steps))
     };
-    let mut rattle = [Vec::new(), Vec::new(), Vec::new()];
-    let mut rust = [Vec::new(), Vec::new(), Vec::new()];
+    // what is measured by a difference must take about as long as what is taken off
+    let before = run(&set);
+    let rounds = (before / (run(&by_turns) - before).max(before / ROUNDS)).ceil() as usize;
+    let toggled = toggled.repeat(rounds);
+    by_turns = [&set[..], &toggled].concat();
+    let mut rattle = [const { Vec::new() }; 4];
+    let mut rust = [const { Vec::new() }; 4];
     let mut set_up = Vec::new();
     for _ in 0..case.turns {
         // the book begins without links in each list, so what stands before the steps is taken off
         let (none, before) = (run(&[]), run(&set));
-        let spent = [run(&built) - none, run(&apart) - before, run(&by_turns) - before];
-        let by_hand = [by_hand(&[], &built), by_hand(&set, &taken), by_hand(&set, &toggled)];
-        for (k, count) in [built.len(), taken.len(), toggled.len() / 2].into_iter().enumerate() {
+        let spent = [run(&built) - none, run(&apart) - before, run(&by_turns) - before, run(&others) - before];
+        let by_hand = [by_hand(&[], &built), by_hand(&set, &taken), by_hand(&set, &toggled), by_hand(&set, &exchanged)];
+        for (k, count) in [built.len(), taken.len(), toggled.len() / 2, exchanged.len() / 2].into_iter().enumerate() {
             rattle[k].push(spent[k] / count as f64);
             rust[k].push(by_hand[k] / count as f64);
         }
         set_up.push(before);
     }
-    let [built, apart, toggled] = [0, 1, 2].map(|k| case.line(Compared::of(&rattle[k], &rust[k])));
+    let [built, apart, toggled, exchanged] = [0, 1, 2, 3].map(|k| case.line(Compared::of(&rattle[k], &rust[k])));
     let tells = apart.compared.rattle[1] * taken.len() as f64 * 20.0 > quartiles(&mut set_up)[1];
-    Stepped { built, taken: tells.then_some(apart), toggled }
+    Stepped { built, taken: tells.then_some(apart), exchanged, toggled }
 }
 
 fn microseconds(nanoseconds: f64) -> String {
@@ -283,9 +322,9 @@ fn print_table(title: &str, lines: &[Line]) {
 /// A link against drawing anew, on sites of 512 stations.
 fn print_redraws(cases: &[(Case, Stepped)]) {
     println!("\n### A link against a redraw, 512 stations, rows of 16\n");
-    println!("| Site | Link and unlink, µs | Redraw, µs | Numbers alone, µs | Redraw to link and unlink | Numbers to these | The same by hand |");
-    println!("|---|---|---|---|---|---|---|");
-    for (case, Stepped { toggled, .. }) in cases {
+    println!("| Site | Link, µs | Link and unlink, µs | Redraw, µs | Numbers alone, µs | Redraw to link | Redraw to link and unlink | Numbers to these | The same three by hand |");
+    println!("|---|---|---|---|---|---|---|---|---|");
+    for (case, Stepped { built, toggled, .. }) in cases {
         let stations = case.site.stations();
         let set = steps(&case.site.links(), true);
         let mut out = [0; LONGEST];
@@ -297,15 +336,19 @@ fn print_redraws(cases: &[(Case, Stepped)]) {
             .collect();
         let redraw = quartiles(&mut spent)[1];
         let (numbers, drawn) = (case.numbers().compared, case.draw().compared);
+        let (link, link_by_hand) = (built.compared.rattle[1], built.compared.rust[1]);
         let (pair, pair_by_hand) = (toggled.compared.rattle[1], toggled.compared.rust[1]);
         println!(
-            "| {} | {} | {} | {} | {:.1} | {:.1} | {:.1} and {:.1} |",
+            "| {} | {} | {} | {} | {} | {:.1} | {:.1} | {:.1} | {:.1}, {:.1} and {:.1} |",
             case.name,
+            microseconds(link),
             microseconds(pair),
             microseconds(redraw),
             microseconds(numbers.rattle[1]),
+            redraw / link,
             redraw / pair,
             numbers.rattle[1] / pair,
+            drawn.rust[1] / link_by_hand,
             drawn.rust[1] / pair_by_hand,
             numbers.rust[1] / pair_by_hand,
         );
@@ -355,12 +398,14 @@ fn main() {
         Case::new("512 stations in halls of 17".into(), Site::halls(512, 17), steps_turns),
         Case::new("512 stations on a ring, rows of 16".into(), Site::ring(512, 16), steps_turns),
     ];
-    let (mut built, mut taken, mut toggled, mut redrawn) = (Vec::new(), Vec::new(), Vec::new(), Vec::new());
+    let scattered = plain.len();
+    let (mut built, mut taken, mut toggled, mut exchanged, mut redrawn) = (Vec::new(), Vec::new(), Vec::new(), Vec::new(), Vec::new());
     for case in plain.into_iter().map(|case| Case { turns: steps_turns, ..case }).chain(even) {
         let measured = measure_steps(&case, &mut dice);
         built.push(measured.built.clone());
         taken.extend(measured.taken.clone());
         toggled.push(measured.toggled.clone());
+        exchanged.push(measured.exchanged.clone());
         if case.site.stations() == 512 && case.site.ends.len() > 4_096 {
             redrawn.push((case, measured));
         }
@@ -368,6 +413,8 @@ fn main() {
     print_table("Link: a site built up from nothing, per link", &built);
     print_table("Unlink: the site taken apart, per link", &taken);
     print_table("A link of the full site taken away and set again, both together", &toggled);
+    // (an even site would be one drawn by lot before long)
+    print_table("A link of the full site taken away and another set, both together", &exchanged[..scattered]);
     print_redraws(&redrawn);
     print_growth(turns.div_ceil(4), &mut dice);
 }

@@ -23,7 +23,7 @@ impl Listed<'_> {
         &self.ends[self.starts[s] as usize..self.starts[s + 1] as usize]
     }
 
-    /// Whether the lists are in order, in one walk: as stations come rising, each row must list them one after the other.
+    /// Whether the lists are in order, in one walk: rows rise, and as stations come rising, each row must list them one after the other.
     pub fn check(&self) -> bool {
         let n = self.starts.len().wrapping_sub(1);
         if !(1..=512).contains(&n) || self.starts[0] != 0 || self.starts[n] as usize != self.ends.len() || !self.starts.is_sorted() {
@@ -32,6 +32,9 @@ impl Listed<'_> {
         let mut next = [0u32; 512];
         next[..n].copy_from_slice(&self.starts[..n]);
         for s in 0..n {
+            if !self.row(s).is_sorted_by(|a, b| a < b) {
+                return false;
+            }
             for t in self.row(s) {
                 let t = usize::from(*t);
                 if t >= n || t == s || next[t] == self.starts[t + 1] || usize::from(self.ends[next[t] as usize]) != s {

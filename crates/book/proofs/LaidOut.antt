@@ -1,8 +1,8 @@
 -- A table of stations without links is current.
-use Rattle.std.proofs.Common.{◌≡◌, ℕ, zero, suc, ◌≤◌, false, List, Ok, [], length, get_or, replicate, refl, sym, ap, ◌∙◌, subst, inl, inr, arith}
+use Rattle.std.proofs.Common.{◌≡◌, ℕ, zero, suc, ◌≤◌, List, Ok, [], count_by, length, get_or, replicate, refl, sym, ap, ◌∙◌, subst, inl, inr, arith}
 use Rattle.std.proofs.lemmas.List.{length-replicate}
 use Rattle.std.proofs.lemmas.Bool.{false≢true, cases_lt}
-use Rattle.cores.specs.Counting.{bit, count, times, holds}
+use Rattle.cores.specs.Counting.{bit, times, holds}
 use Rattle.cores.specs.Site.{laid_out}
 use Rattle.cores.specs.Numbers.{hears, number}
 use Rattle.cores.proofs.Entries.{times_none, holds_none}
@@ -12,18 +12,15 @@ use Rattle.view.specs.Answers.{counted}
 use Rattle.view.specs.Rows.{Faithful}
 use Rattle.view.proofs.Admitted.{sized_within}
 use Rattle.book.specs.declared.table.Table.{Table}
-use Rattle.book.specs.Tables.{links, numbers, row, unlinked, site_of, Sound, Current}
+use Rattle.book.specs.Tables.{links, numbers, places, row, unlinked, site_of, Sound}
+use Rattle.book.specs.Current.{Current, stands_later}
+use Rattle.book.proofs.Later.{none_counted}
 
 -- the same value at each place, and past the end
 all_same : {A : Type 0} (n s : ℕ) (x : A) → get_or (replicate n x) s x ≡ x
 all_same zero s x = refl
 all_same (suc n) zero x = refl
 all_same (suc n) (suc s) x = all_same n s x
-
-none_counted : (n : ℕ) → count n (λ t. false) ≡ 0
-unfolding count bit
-none_counted zero = refl
-none_counted (suc n) = omega (arith, none_counted n)
 
 module _ (n : ℕ) where
   no_row : (s : ℕ) → row (unlinked n) s ≡ []
@@ -60,6 +57,7 @@ module _ (n : ℕ) where
   laid_out_current table h same zeros = record {
     sound = subst Sound (sym same) (unlinked_sound h);
     right = λ s. ap (λ xs. get_or xs s 0) zeros ∙ all_same 512 s 0 ∙ sym (ap (λ l. number (site_of l) s) same ∙ ap (λ g. number g s) unlinked_site ∙ no_number s);
+    bears_out = λ s. let nobody = ap (count_by (stands_later (numbers table) (places table) s)) (ap (λ l. row l s) same ∙ no_row s) in omega arith;
   }
 
   pub laid_out_site : (table : Table) → links table ≡ unlinked n → site_of (links table) ≡ laid_out n

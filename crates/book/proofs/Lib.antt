@@ -2,6 +2,9 @@ pub mod Rows
 pub mod Tables
 pub mod LaidOut
 pub mod Queues
+pub mod Places
+pub mod Watching
+pub mod Later
 pub mod Falling
 pub mod Rising
 pub mod Changed

@@ -1,12 +1,15 @@
 -- Lists that name stations: how long they are, and one station more.
-use Rattle.std.proofs.Common.{◌≡◌, ℕ, zero, suc, ◌+◌, ◌<◌, ◌≤◌, Bool, true, false, ◌&&◌, ◌||◌, ltb, eqb, Some, None, List, [], ◌∷◌, ◌++◌, length, drop, get_or, refl, inl, inr, arith}
+use Rattle.std.proofs.Common.{◌≡◌, ℕ, zero, suc, ◌+◌, ◌<◌, ◌≤◌, Bool, true, false, ◌&&◌, ◌||◌, ltb, eqb, Some, None, List, [], ◌∷◌, ◌++◌, length, length-take, append-nil, take, drop, get_or, refl, sym, ap, ◌∙◌, inl, inr, arith}
 use Rattle.std.specs.List.{slice_get}
 use Rattle.std.proofs.lemmas.Option.{slice_get-get_or, slice_get_within, get_or_from_slice_get}
+use Rattle.std.specs.List.Sorted.{IsPermutation}
+use Rattle.std.proofs.lemmas.List.{length-take-le, take-append-le, take_all, drop_all}
+use Rattle.std.proofs.lemmas.List.Sorted.{list_any-IsPermutation}
 use Rattle.std.proofs.lemmas.Bool.{cases_lt}
 use Rattle.cores.specs.Counting.{bit, count, total, times, holds}
 use Rattle.cores.proofs.Counts.{count_le, count_lt}
 use Rattle.cores.proofs.Sums.{count_total, total_same, entries_below, entries_all}
-use Rattle.cores.proofs.Entries.{times_at, times_none, times_cons, times_append}
+use Rattle.cores.proofs.Entries.{times_at, times_none, times_cons, times_append, holds_listed}
 
 total_mono : (n : ℕ) (f g : ℕ → ℕ) → ((t : ℕ) → t < n → f t ≤ g t) → total n f ≤ total n g
 unfolding total
@@ -80,3 +83,18 @@ drop_got xs v s got = let h = slice_get_within xs v s got in (h, rw (← get_or_
 -- nothing stands past the end
 pub taken_none : (xs : List ℕ) (v : ℕ) → slice_get xs v ≡ None → length xs ≤ v
 taken_none xs v e = elim (cases_lt v (length xs)) [ inl low ↦ let some = slice_get-get_or xs v 0 low in absurd (cc) | inr past ↦ past ]
+
+-- a front that is as long as the one that it takes the place of
+pub front_of : (len : ℕ) (ys zs : List ℕ) → length ys ≡ length (take len zs) → take len (ys ++ drop (length (take len zs)) zs) ≡ ys
+front_of len ys zs long = elim (cases_lt len (length zs)) [
+  | inl less ↦
+      let short = length-take-le len zs (omega arith) in
+      take-append-le len ys _ (omega arith) ∙ take_all len ys (omega arith)
+  | inr past ↦
+      let all = length-take len zs in
+      ap (λ rest. take len (ys ++ rest)) (drop_all (length (take len zs)) zs (omega arith)) ∙ ap (take len) (append-nil ys) ∙ take_all len ys (omega arith)
+]
+
+-- sorted stations are the same stations
+pub holds_sorted : (xs ys : List ℕ) → IsPermutation xs ys → (s : ℕ) → holds ys s ≡ holds xs s
+holds_sorted xs ys sorted s = holds_listed ys s ∙ sym (list_any-IsPermutation (λ x. eqb x s) xs ys sorted) ∙ sym (holds_listed xs s)

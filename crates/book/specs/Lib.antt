@@ -1,5 +1,7 @@
 pub mod Stations
+pub mod Orders
 pub mod Tables
+pub mod Current
 pub mod Books
 pub mod Answers
 pub mod Queues

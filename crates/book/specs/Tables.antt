@@ -1,8 +1,7 @@
--- The links and the numbers that a table of stations holds. Assumes nothing.
-use Rattle.std.specs.Prelude.{◌≡◌, ℕ, ◌≤◌, List, [], map, length, replicate, slice_index, slice_index_or, slice_set}
+-- The links, the numbers and the places that a table of stations holds. Assumes nothing.
+use Rattle.std.specs.Prelude.{◌≡◌, ℕ, ◌≤◌, List, [], map, length, replicate, slice_index_or, slice_set}
 use Rattle.cores.specs.Counting.{holds}
 use Rattle.cores.specs.Site.{Site}
-use Rattle.cores.specs.Numbers.{number}
 use Rattle.view.specs.Rows.{Faithful}
 use Rattle.book.specs.declared.station.Station.{Station}
 use Rattle.book.specs.declared.table.Table.{Table}
@@ -20,6 +19,10 @@ links table = record { stations = table.count; rows = map entries table.stations
 -- and the numbers
 abbrev pub numbers : Table → List ℕ
 numbers table = map (λ (station : Station). station.number) table.stations
+
+-- and the places at which its stations stand
+abbrev pub places : Table → List ℕ
+places table = table.order.places
 
 -- the row of a station; none if it has no record
 abbrev pub row : Links → ℕ → List ℕ
@@ -43,8 +46,3 @@ pub record Sound (l : Links) : Type 0 where
   pub records : length l.rows ≡ 512
   pub room : (s : ℕ) → length (row l s) ≤ 32
   pub faithful : Faithful (site_of l) (row l)
-
--- A table is current: its links are sound, and each number is the core number on the site that they mean.
-pub record Current (table : Table) : Type 0 where
-  pub sound : Sound (links table)
-  pub right : (s : ℕ) → slice_index (numbers table) s ≡ number (site_of (links table)) s

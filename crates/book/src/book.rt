@@ -1,6 +1,6 @@
 //! The book of a site.
 
-ghost use Rattle.book.specs.Tables.{Current};
+ghost use Rattle.book.specs.Current.{Current};
 
 use crate::table::Table;
 

@@ -3,6 +3,7 @@
 
 mod book;
 pub mod laws;
+mod order;
 mod queue;
 mod station;
 mod table;

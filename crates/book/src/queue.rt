@@ -1,8 +1,12 @@
 //! Stations in the order in which they were noted.
 
-ghost use Rattle.std.specs.Prelude.{◌≡◌, ◌<◌, ◌∷◌, [], ◌++◌, length};
+ghost use Rattle.std.specs.Prelude.{ℕ, ◌≡◌, ◌<◌, ◌∷◌, [], ◌++◌, length};
 ghost use Rattle.std.specs.List.{slice_get};
+ghost use Rattle.cores.specs.Counting.{holds};
 ghost use Rattle.book.specs.Queues.{noted};
+ghost use Rattle.book.specs.Orders.{LastFirst};
+
+use crate::order::Order;
 
 /// Up to 512 stations, the first noted first.
 #[derive(Drop)]
@@ -47,5 +51,15 @@ impl Queue {
         // a cast, as stations are below 512
         self.stations[len] = s as u16;
         self.len = len + 1;
+    }
+
+    /// Orders the stations by their places, the greatest first.
+    pub(crate) fn sort_last_first(&mut self, order: &Order)
+        ensures same { (s : ℕ) → holds (noted self.new) s ≡ holds (noted self.old) s }
+        ensures last_first { LastFirst order.now.places (noted self.new) }
+    {
+        let len = self.noted().len();
+        // the greatest place has the smallest key
+        self.stations[..len].sort_unstable_by_key(|s| u16::MAX - order.place(usize::from(*s)));
     }
 }

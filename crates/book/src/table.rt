@@ -3,19 +3,21 @@
 ghost use Rattle.std.specs.Prelude.{◌≡◌, ◌<◌, length, replicate, slice_index, slice_set};
 ghost use Rattle.cores.specs.Counting.{holds};
 ghost use Rattle.book.specs.Stations.{put, cut};
-ghost use Rattle.book.specs.Tables.{links, numbers, row as row_of, unlinked, with_row};
+ghost use Rattle.book.specs.Tables.{links, numbers, places, row as row_of, unlinked, with_row};
 
+use crate::order::Order;
 use crate::station::Station;
 
 mod joining;
 mod lifting;
 mod settling;
 
-/// The record of each station there can be, and how many of them there are.
+/// The record of each station there can be, how many of them there are, and an order that bears out their numbers.
 #[derive(Drop)]
 pub(crate) struct Table {
     count: usize,
     stations: [Station; 512],
+    order: Order,
 }
 
 impl Table {
@@ -27,6 +29,7 @@ impl Table {
         Table {
             count,
             stations: [Station::new(); 512],
+            order: Order::new(),
         }
     }
 
@@ -66,6 +69,7 @@ impl Table {
         requires { s < 512 }
         ensures links { links self.new ≡ links self.old }
         ensures numbers { numbers self.new ≡ slice_set (numbers self.old) s number }
+        ensures order { places self.new ≡ places self.old }
     {
         self.stations[s].renumber(number);
     }
@@ -77,6 +81,7 @@ impl Table {
         requires room { length (row_of (links self.old) s) < 32 }
         ensures links { links self.new ≡ with_row (links self.old) s (put t (row_of (links self.old) s)) }
         ensures numbers { numbers self.new ≡ numbers self.old }
+        ensures order { places self.new ≡ places self.old }
     {
         // a cast, as stations are below 512
         self.stations[s].insert(t as u16);
@@ -88,6 +93,7 @@ impl Table {
         requires neighbour { t < 512 }
         ensures links { links self.new ≡ with_row (links self.old) s (cut t (row_of (links self.old) s)) }
         ensures numbers { numbers self.new ≡ numbers self.old }
+        ensures order { places self.new ≡ places self.old }
     {
         // a cast, as stations are below 512
         self.stations[s].remove(t as u16);

@@ -6,7 +6,7 @@ use Rattle.std.specs.Borrow.{Bor}
 use Rattle.text.specs.Texts.{number_up_to}
 use Rattle.commands.specs.declared.unread.Unread.{Unread}
 use Rattle.commands.specs.declared.unread.Unread.TheVariants.{NotUnderstood, NoMemory}
-use Rattle.commands.specs.Meanings.{Meant}
+use Rattle.commands.specs.Meanings.{Meant, Understood}
 use Rattle.commands.specs.Numerals.{before, numbers_up_to, bytes_of}
 
 -- numbers behind those that were read in front of them
@@ -22,10 +22,15 @@ pub front_none : (later : Option (List ℕ)) → with_front [] later ≡ later
 front_none (Some later) = refl
 front_none None = refl
 
--- what is meant by what leaves a lack as it is
-pub lack_stays : {X Y : Type 0} (m : Option X) (n : Option Y) → (m ≡ None → n ≡ None) → (e : Unread) → Meant m (Err e) → Meant n (Err e)
+-- what is understood by what leaves a lack as it is
+pub lack_stays : {X Y : Type 0} (m : Option X) (n : Option Y) → (m ≡ None → n ≡ None) → (e : Unread) → Understood m (Err e) → Understood n (Err e)
 lack_stays m n lacks NotUnderstood h = lacks h
-lack_stays m n lacks NoMemory h = tt
+lack_stays m n lacks NoMemory h = elim h [ ]
+
+-- what is understood is what is meant
+pub meant : {X : Type 0} (m : Option X) (e : Unread) → Understood m (Err e) → Meant m (Err e)
+meant m NotUnderstood h = h
+meant m NoMemory h = tt
 
 -- what the exit of a `?` answers
 pub exit : {X : Type 0} (r : Result X Unread) (e : Unread) → IsErrAnd r (λ y. y ≡ e) → r ≡ Err e

@@ -13,3 +13,9 @@ abbrev pub Meant : {X : Type 0} → Option X → Result X Unread → Type 0
 Meant m (Ok x) = m ≡ Some x
 Meant m (Err NotUnderstood) = m ≡ None
 Meant m (Err NoMemory) = Unit {0}
+
+-- Where no memory is asked for, the answer is what is meant.
+abbrev pub Understood : {X : Type 0} → Option X → Result X Unread → Type 0
+Understood m (Ok x) = m ≡ Some x
+Understood m (Err NotUnderstood) = m ≡ None
+Understood m (Err NoMemory) = ⊥

@@ -1,8 +1,9 @@
 //! Bytes as hexadecimal digits.
 
-ghost use Rattle.std.specs.Prelude.{◌≡◌, Some, vec_items};
+ghost use Rattle.std.specs.Prelude.{◌≡◌, true, Some, Err, vec_items};
 ghost use Rattle.std.specs.Char.{is_ascii_uppercase};
 ghost use Rattle.std.specs.List.{list_any};
+ghost use Rattle.commands.specs.declared.unread.Unread.TheVariants.{NotUnderstood};
 ghost use Rattle.commands.specs.Meanings.{Meant, giving};
 ghost use Rattle.commands.specs.Hexadecimals.{decoded, encoded};
 
@@ -20,7 +21,8 @@ fn has_capital(digits: &[u8]) -> bool
 
 /// The bytes that digits write, in lower case and without spaces; `-` writes none.
 pub fn decode(heap: Global, digits: &[u8]) -> Result<Vec<u8>, Unread>
-    ensures { Meant (decoded digits.now) (giving vec_items result) }
+    ensures bytes { Meant (decoded digits.now) (giving vec_items result) }
+    ensures capital { list_any is_ascii_uppercase digits.now ≡ true → result ≡ Err NotUnderstood }
 {
     if digits == b"-".as_slice() {
         return Ok(Vec::new(heap));

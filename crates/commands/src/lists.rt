@@ -3,7 +3,7 @@
 ghost use Rattle.std.specs.Prelude.{◌≡◌, ℕ, ◌-◌, ◌^◌, map, vec_items};
 ghost use Rattle.std.specs.Option.{option_map};
 ghost use Rattle.text.specs.Texts.{number_up_to};
-ghost use Rattle.commands.specs.Meanings.{Meant, giving};
+ghost use Rattle.commands.specs.Meanings.{Meant, Understood, giving};
 ghost use Rattle.commands.specs.Numerals.{numbers_up_to, bytes_of, is_slash, cut_at_slash};
 ghost use Rattle.std.specs.List.{position};
 
@@ -56,7 +56,7 @@ impl Number for u16 {
 
 /// The number that a word writes.
 pub(crate) fn read_number<T: Number>(word: &[u8]) -> Result<T, Unread>
-    ensures { Meant (number_up_to T.most word.now) (giving T.value result) }
+    ensures { Understood (number_up_to T.most word.now) (giving T.value result) }
 {
     T::read(word).ok_or(Unread::NotUnderstood)
 }
@@ -83,7 +83,7 @@ fn find_slash(words: &[&[u8]]) -> Option<usize>
 pub(crate) fn before_slash<'a, 'b>(
     words: &'a [&'b [u8]],
 ) -> Result<(&'a [&'b [u8]], &'a [&'b [u8]]), Unread>
-    ensures { Meant (cut_at_slash (bytes_of words.now)) (giving (λ parts. (bytes_of parts.0.now, bytes_of parts.1.now)) result) }
+    ensures { Understood (cut_at_slash (bytes_of words.now)) (giving (λ parts. (bytes_of parts.0.now, bytes_of parts.1.now)) result) }
 {
     let slash = find_slash(words).ok_or(Unread::NotUnderstood)?;
     Ok((&words[..slash], &words[slash + 1..]))

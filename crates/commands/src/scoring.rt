@@ -1,6 +1,6 @@
 //! The scoring rules that a command can name.
 
-ghost use Rattle.commands.specs.Meanings.{Meant};
+ghost use Rattle.commands.specs.Meanings.{Understood};
 ghost use Rattle.commands.specs.Numerals.{bytes_of};
 ghost use Rattle.commands.specs.Rules.{net_of, scoring_of};
 
@@ -29,7 +29,7 @@ pub enum Scoring {
 
 /// The rule of the net gain that words name: `net` and its three weights.
 fn read_net(words: &[&[u8]]) -> Result<Net, Unread>
-    ensures { Meant (net_of (bytes_of words.now)) result }
+    ensures { Understood (net_of (bytes_of words.now)) result }
 {
     match words {
         [net, gain, boundary, member] if *net == NET => Ok(Net {
@@ -44,7 +44,7 @@ fn read_net(words: &[&[u8]]) -> Result<Net, Unread>
 impl Scoring {
     /// The scoring rule that words name.
     pub(crate) fn read(words: &[&[u8]]) -> Result<Scoring, Unread>
-        ensures { Meant (scoring_of (bytes_of words.now)) result }
+        ensures { Understood (scoring_of (bytes_of words.now)) result }
     {
         if words == [AVERAGE].as_slice() {
             return Ok(Scoring::Average);

@@ -60,6 +60,8 @@ fn other_lines_are_not_understood(rt: HostRuntime) {
         "put 65536 / 0 / 0 / 0",
         "choose average then",
         "layout 3",
+        "numbers 1",
+        "survey 0A",
     ];
     for line in lines {
         let why = Command::read(rt.alloc(), line.as_bytes()).err();

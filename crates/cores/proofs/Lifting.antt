@@ -27,11 +27,11 @@ pub record OneMore (g h : Site) (a b : ℕ) : Type 0 where
   pub new : (s t : ℕ) → h.linked s t ≡ true → (g.linked s t || ends a b s t) ≡ true
 
 module _ (g h : Site) (a b : ℕ) (one : OneMore g h a b) where
-  hears_more : (X : Group) (s : ℕ) → hears g X s ≤ hears h X s
+  pub hears_more : (X : Group) (s : ℕ) → hears g X s ≤ hears h X s
   hears_more X s = hears_mono g h X X s one.same_size (λ t l e x. (one.old s t e, x))
 
   -- no more are heard by a station that is no end, or whose other end is not in the group
-  hears_same : (X : Group) (s : ℕ) → (s ≡ a → X b ≡ false) → (s ≡ b → X a ≡ false) → hears h X s ≤ hears g X s
+  pub hears_same : (X : Group) (s : ℕ) → (s ≡ a → X b ≡ false) → (s ≡ b → X a ≡ false) → hears h X s ≤ hears g X s
   unfolding ends
   hears_same X s not_b not_a = hears_mono h g X X s (sym one.same_size) (λ t l e x. let new = one.new s t e in (grind arith, x))
 
@@ -42,7 +42,7 @@ module _ (g h : Site) (a b : ℕ) (one : OneMore g h a b) where
 
   module _ (la : a < g.size) (lb : b < g.size) (apart : a ≡ b → ⊥) where
     -- at most one more is heard: the other end
-    hears_one : (X : Group) (s : ℕ) → hears h X s ≤ hears g X s + 1
+    pub hears_one : (X : Group) (s : ℕ) → hears h X s ≤ hears g X s + 1
     unfolding hears ends
     hears_one X s = elim (cases_eq s a) [
       | inl at_a ↦ but b (λ t e d. let new = one.new s t e in grind arith)

@@ -7,11 +7,11 @@ use Rattle.cores.specs.Links.{ends, joined, parted, OneLinkMoreLiftsByOne, OneLi
 use Rattle.cores.proofs.Sites.{same_site}
 use Rattle.cores.proofs.Lifting.{OneMore, moving, moves_back, number_lifted, moved_chain}
 
-joined_one : (g : Site) (a b : ℕ) → OneMore g (joined g a b) a b
+pub joined_one : (g : Site) (a b : ℕ) → OneMore g (joined g a b) a b
 unfolding joined
 joined_one g a b = record { same_size = refl; old = λ s t e. grind arith; new = λ s t e. e }
 
-parted_one : (g : Site) (a b : ℕ) → OneMore (parted g a b) g a b
+pub parted_one : (g : Site) (a b : ℕ) → OneMore (parted g a b) g a b
 unfolding parted
 parted_one g a b = record { same_size = refl; old = λ s t e. grind arith; new = λ s t e. grind arith }
 

@@ -1,32 +1,38 @@
 -- The table of the remaining stations: filled at first, and lowered as a station is removed.
-use Rattle.std.proofs.Common.{◌≡◌, ℕ, zero, suc, ◌+◌, ◌-◌, ◌<◌, ◌≤◌, true, cond, ◌&&◌, not, ltb, eqb, Some, None, Option, List, [], ◌∷◌, length, get_or, get_or-set_same, get_or-set_other, set, replicate, refl, ap, ◌∙◌, inl, inr, le_antisymm, arith}
+use Rattle.std.proofs.Common.{◌≡◌, ℕ, zero, suc, ◌+◌, ◌-◌, ◌<◌, ◌≤◌, true, cond, ◌&&◌, not, ltb, eqb, Some, None, Option, List, [], ◌∷◌, length, is_some, option_map, get_or-set_same, get_or-set_other, set, replicate, refl, ap, sym, ◌∙◌, subst, inl, inr, le_antisymm, arith}
 use Rattle.std.proofs.lemmas.Bool.{cases_eq}
+use Rattle.std.proofs.lemmas.List.{set-get_or}
 use Rattle.cores.specs.Counting.{bit, count, times}
 use Rattle.cores.specs.Site.{Site, Lawful}
 use Rattle.cores.specs.Numbers.{Group, hears, without}
 use Rattle.cores.proofs.Searches.{by_cases}
 use Rattle.cores.proofs.Entries.{times_none, times_cons}
-use Rattle.cores.proofs.Counts.{count_without, count_mono}
+use Rattle.cores.proofs.Counts.{count_without, count_mono, count_lt, count_le}
 use Rattle.drawer.specs.Peeling.{entry, there, Counts}
+use Rattle.drawer.proofs.Sets.{all_same}
+
+-- a table has room for the stations that are there
+pub there_within : (table : List (Option ℕ)) (t : ℕ) → there table t ≡ true → t < length table
+there_within [] t e = absurd cc
+there_within (o ∷ table) zero e = omega arith
+there_within (o ∷ table) (suc t) e = omega (arith, there_within table t e)
 
 -- a table filled up to place i: f t at each lower place, and nothing from there on
 abbrev pub FilledTo : (ℕ → ℕ) → ℕ → List (Option ℕ) → Type 0
 FilledTo f i table = (t : ℕ) → entry table t ≡ cond (ltb t i) (Some (f t)) None
 
--- a table of nothing
-pub blank : {A : Type 0} (n t : ℕ) → get_or {A = Option A} (replicate n None) t None ≡ None
-blank zero t = refl
-blank (suc n) zero = refl
-blank (suc n) (suc t) = blank n t
-
 pub filled_none : (f : ℕ → ℕ) (n : ℕ) → FilledTo f 0 (replicate n None)
-filled_none f n t = let none = blank {A = ℕ} n t in grind arith
+filled_none f n t = let none = all_same {A = Option ℕ} None n t in grind arith
 
 pub filled_more : (f : ℕ → ℕ) (i v : ℕ) (table : List (Option ℕ)) → i < length table → v ≡ f i → FilledTo f i table → FilledTo f (i + 1) (set table i (Some v))
 filled_more f i v table h is filled t = let before = filled t in elim (cases_eq t i) [
   | inl same ↦ let here = get_or-set_same table i (Some v) None h in rw same (grind arith)
   | inr other ↦ let here = get_or-set_other table i t (Some v) None other in grind arith
 ]
+
+-- fewer neighbours than stations
+pub degree_below : (g : Site) → Lawful g → (s : ℕ) → s < g.size → count g.size (g.linked s) < g.size
+degree_below g law s h = omega (arith, count_lt g.size (g.linked s) (λ t. true) s h (λ t l e. refl) (law.apart s) refl, count_le g.size (λ t. true))
 
 -- every station is there, and hears all its neighbours
 pub hears_all : (g : Site) (s : ℕ) → hears g (λ t. ltb t g.size) s ≡ count g.size (g.linked s)
@@ -93,8 +99,7 @@ module _ (g : Site) (law : Lawful g) (X : Group) (s : ℕ) where
     unfolding bit
     lowering_some k e = let at = times_coming u in let counts = l.counts u k e in grind arith
 
-    -- it is lowered, and one that is not there is passed by
-    pub lowering_more : (k : ℕ) → u < length table → entry table u ≡ Some k → Lowering g X s rest (set table u (Some (k - 1)))
+    lowering_more : (k : ℕ) → u < length table → entry table u ≡ Some k → Lowering g X s rest (set table u (Some (k - 1)))
     unfolding bit
     lowering_more k within e = record {
       on_site = λ t more. let at = times_coming t in l.on_site t (omega arith);
@@ -108,13 +113,21 @@ module _ (g : Site) (law : Lawful g) (X : Group) (s : ℕ) where
       ];
     }
 
-    pub lowering_past : entry table u ≡ None → Lowering g X s rest table
+    lowering_past : entry table u ≡ None → Lowering g X s rest (set table u None)
     unfolding bit
-    lowering_past e = record {
+    lowering_past e = subst (Lowering g X s rest) (sym (ap (set table u) (sym e) ∙ set-get_or table u None)) record {
       on_site = λ t more. let at = times_coming t in l.on_site t (omega arith);
       stays = l.stays;
       counts = λ t j d. let at = times_coming t in let before = l.counts t j d in grind arith;
     }
+
+    -- it is lowered, and one that is not there is passed by
+    pub lowering_next : Lowering g X s rest (set table u (option_map (λ k. k - 1) (entry table u)))
+    lowering_next = go (entry table u) refl
+      where
+        go : (o : Option ℕ) → entry table u ≡ o → Lowering g X s rest (set table u (option_map (λ k. k - 1) o))
+        go None e = lowering_past e
+        go (Some k) e = lowering_more k (there_within table u (ap is_some e)) e
 
   -- when none are to come, the table is that of the others
   pub lowering_done : (table : List (Option ℕ)) → Lowering g X s [] table → Counts g (without s X) table
@@ -123,9 +136,3 @@ module _ (g : Site) (law : Lawful g) (X : Group) (s : ℕ) where
       go : (o : Option ℕ) → entry table t ≡ o → o ≡ cond (without s X t) (Some (hears g (without s X) t)) None
       go None e = let stays = l.stays t in grind arith
       go (Some k) e = let stays = l.stays t in let counts = l.counts t k e in let none = times_none t in grind arith
-
--- a table has room for the stations that are there
-pub there_within : (table : List (Option ℕ)) (t : ℕ) → there table t ≡ true → t < length table
-there_within [] t e = absurd cc
-there_within (o ∷ table) zero e = omega arith
-there_within (o ∷ table) (suc t) e = omega (arith, there_within table t e)

@@ -1,4 +1,5 @@
-mod Fewest
+mod Sets
+mod Sorted
 mod Counted
 mod Peels
 mod Peaks

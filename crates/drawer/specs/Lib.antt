@@ -1,3 +1,4 @@
 pub mod Removals
 pub mod Calls
+pub mod Stations
 pub mod Peeling

@@ -1,8 +1,10 @@
 -- What the table of the remaining stations holds. Assumes nothing.
-use Rattle.std.specs.Prelude.{◌≡◌, ℕ, ◌<◌, ◌≤◌, ◌/◌, min, List, cond, is_some, Some, None, Option, length, slice_index_or}
+use Rattle.std.specs.Prelude.{◌≡◌, ℕ, ◌<◌, ◌≤◌, ◌==◌, Bool, false, List, [], cond, is_some, Some, None, Option, length, slice_index_or}
 use Rattle.std.specs.Option.{ForNone, ForSome}
 use Rattle.cores.specs.Site.{Site}
 use Rattle.cores.specs.Numbers.{Group, hears}
+use Rattle.drawer.specs.declared.stations.StationSet.{StationSet}
+use Rattle.drawer.specs.Stations.{is_in}
 use Rattle.drawer.specs.declared.removal.Removal.{Removal}
 
 -- what a table says of a station: how many neighbours it has left, if it is there
@@ -26,24 +28,22 @@ abbrev pub IsLeast : List (Option ℕ) → Option Removal → Type 0
 IsLeast table least = ForNone least ((t : ℕ) → entry table t ≡ None)
     × ForSome least (λ r. (entry table r.station ≡ Some r.left) × ((t k : ℕ) → entry table t ≡ Some k → NoLater r k t))
 
--- the lesser of two counts, where there are two
-abbrev pub fewer_of : Option ℕ → Option ℕ → Option ℕ
-fewer_of None b = b
-fewer_of (Some a) None = Some a
-fewer_of (Some a) (Some b) = Some (min a b)
+-- does a table's entry say k
+abbrev pub says : ℕ → Option ℕ → Bool
+says k None = false
+says k (Some j) = j == k
 
--- Somewhere that P takes, a table has this count.
-abbrev pub HasAmong : (ℕ → Type 0) → List (Option ℕ) → ℕ → Type 0
-HasAmong P table k = ((t : ℕ) → P t → entry table t ≡ Some k → ⊥) → ⊥
+-- the set at k of a list of sets; where the list ends, one without a station
+abbrev pub set_at : List StationSet → ℕ → StationSet
+set_at sets k = slice_index_or sets k (record { words = [] })
 
--- The least count of a table where P takes it, or none where there is none.
-abbrev pub IsFewest : (ℕ → Type 0) → List (Option ℕ) → Option ℕ → Type 0
-IsFewest P table fewest = ForNone fewest ((t : ℕ) → P t → entry table t ≡ None)
-    × ForSome fewest (λ k. HasAmong P table k × ((t j : ℕ) → P t → entry table t ≡ Some j → k ≤ j))
+-- Every set has the stations for which a table says its count.
+abbrev pub SortedByLeft : List (Option ℕ) → List StationSet → Type 0
+SortedByLeft table sets = (k t : ℕ) → is_in (set_at sets k) t ≡ says k (entry table t)
 
--- A list has for each block of sixteen stations the least count of a table there.
-abbrev pub FewestByBlock : List (Option ℕ) → List (Option ℕ) → Type 0
-FewestByBlock table fewest = (b : ℕ) → b < 32 → IsFewest (λ t. t / 16 ≡ b) table (entry fewest b)
+-- Every count of a table is from one number to before another.
+abbrev pub CountsWithin : ℕ → ℕ → List (Option ℕ) → Type 0
+CountsWithin from to table = (t j : ℕ) → entry table t ≡ Some j → (from ≤ j) × (j < to)
 
 -- A removal fits in a table: its station has an entry there, which can hold the neighbours left.
 abbrev pub FitsIn : List ℕ → Removal → Type 0

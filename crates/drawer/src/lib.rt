@@ -10,6 +10,7 @@ mod peeling;
 mod rehearsing;
 mod remaining;
 mod removal;
+mod stations;
 
 pub use drawing::draw;
 pub use numbering::numbers;

@@ -1,26 +1,31 @@
 //! The stations that are still there while a site is peeled.
 
-ghost use Rattle.std.specs.Prelude.{◌≡◌, ℕ, ◌+◌, ◌<◌, ◌≤◌, Some, length};
-ghost use Rattle.drawer.specs.Peeling.{entry, fewer_of, HasAmong, IsFewest, FewestByBlock};
+ghost use Rattle.std.specs.Prelude.{◌≡◌, ℕ, ◌<◌, ◌≤◌};
+ghost use Rattle.drawer.specs.Peeling.{entry, SortedByLeft, CountsWithin};
 
 use crate::Removal;
+use crate::stations::StationSet;
 use view::View;
-
-/// How many stations a block has.
-const BLOCK: usize = 16;
 
 /// How many neighbours each station of a view has left; none for one that is removed.
 #[derive(Drop)]
 pub(crate) struct Remaining<'a, V> {
     view: &'a V,
     left: [Option<usize>; 512],
-    /// For each block of stations, the fewest neighbours that one of them has left.
-    fewest: [Option<usize>; 32],
-    ghost kept: { FewestByBlock left fewest },
+    /// For each count, the stations that have so many neighbours left.
+    by_left: [StationSet; 512],
+    /// No station has fewer neighbours left.
+    fewest: usize,
+    /// Each station has fewer neighbours left.
+    limit: usize,
+    ghost sorted: { SortedByLeft left by_left },
+    ghost within: { CountsWithin fewest limit left },
+    ghost few: { limit ≤ 512 },
 }
 
 impl<'a, V: View> Remaining<'a, V> {
-    ghost use Rattle.std.specs.Prelude.{None, set, true, nat_lt};
+    ghost use Rattle.std.specs.Prelude.{◌-◌, None, Some, set, true, false, nat_lt};
+    ghost use Rattle.std.specs.Option.{option_map};
     ghost use Rattle.cores.specs.Numbers.{without};
     ghost use Rattle.drawer.specs.Peeling.{Counts, there, IsLeast};
 
@@ -33,22 +38,30 @@ impl<'a, V: View> Remaining<'a, V> {
         let mut remaining = Remaining {
             view,
             left: [None; 512],
-            fewest: [None; 32],
+            by_left: [StationSet::none(); 512],
+            fewest: 512,
+            limit: 0,
         };
         for s in 0..view.stations() {
-            remaining.lower(s, view.degree(s));
+            remaining.put(s, view.degree(s));
         }
         remaining
     }
 
     /// The removal that is next: of the stations with the fewest neighbours left, that of the lowest.
-    pub(crate) fn next_removal(&self) -> Option<Removal>
-        ensures { IsLeast self.now.left result }
+    pub(crate) fn next_removal(&mut self) -> Option<Removal>
+        ensures view { self.new.view ≡ self.old.view }
+        ensures left { self.new.left ≡ self.old.left }
+        ensures least { IsLeast self.old.left result }
     {
-        let left = fewest_among(&self.fewest, 0, 32)?;
-        let block = first_with(&self.fewest, left, 0, 32);
-        let station = first_with(&self.left, left, block * BLOCK, block * BLOCK + BLOCK);
-        Some(Removal { station, left })
+        // a removal brings the fewest down by one at most, so few sets are looked at twice
+        for left in self.fewest..self.limit {
+            if let Some(station) = self.by_left[left].first() {
+                self.fewest = left;
+                return Some(Removal { station, left });
+            }
+        }
+        None
     }
 
     /// Removes a station, so that its neighbours have one neighbour less left.
@@ -60,73 +73,49 @@ impl<'a, V: View> Remaining<'a, V> {
         ensures view { self.new.view.now ≡ self.old.view.now }
         ensures left { Counts (V.View.site self.old.view.now) (without s (there self.old.left)) self.new.left }
     {
-        self.take_out(s);
+        self.take(s);
         for t in self.view.neighbours(s) {
-            if let Some(left) = self.left[t] {
-                self.lower(t, left - 1);
-            }
+            self.lower(t);
         }
     }
 
-    /// Notes how many neighbours a station has left, no more than before.
-    fn lower(&mut self, t: usize, left: usize)
+    /// Notes that a station has one neighbour less left, if it is there.
+    fn lower(&mut self, t: usize)
         requires within { t < 512 }
-        requires lower { (k : ℕ) → entry self.old.left t ≡ Some k → left ≤ k }
+        requires counted { (k : ℕ) → entry self.old.left t ≡ Some k → 1 ≤ k }
+        ensures view { self.new.view ≡ self.old.view }
+        ensures left { self.new.left ≡ set self.old.left t (option_map (λ k. k - 1) (entry self.old.left t)) }
+    {
+        if let Some(left) = self.take(t) {
+            self.put(t, left - 1);
+        }
+    }
+
+    /// Puts a station in that is not there, with how many neighbours it has left.
+    fn put(&mut self, t: usize, left: usize)
+        requires within { t < 512 }
+        requires few { left < 512 }
+        requires gone { there self.old.left t ≡ false }
         ensures view { self.new.view ≡ self.old.view }
         ensures left { self.new.left ≡ set self.old.left t (Some left) }
     {
-        let block = t / BLOCK;
         self.left[t] = Some(left);
-        self.fewest[block] = fewer(self.fewest[block], Some(left));
+        self.by_left[left].insert(t);
+        self.fewest = self.fewest.min(left);
+        self.limit = self.limit.max(left + 1);
     }
 
-    /// Takes a station out, and looks its block through for the fewest neighbours left there.
-    fn take_out(&mut self, s: usize)
-        requires { s < 512 }
+    /// Takes a station out. Answers how many neighbours it had left, or none if it was not there.
+    fn take(&mut self, t: usize) -> Option<usize>
+        requires { t < 512 }
         ensures view { self.new.view ≡ self.old.view }
-        ensures left { self.new.left ≡ set self.old.left s None }
+        ensures left { self.new.left ≡ set self.old.left t None }
+        ensures was { result ≡ entry self.old.left t }
+        ensures few { (k : ℕ) → result ≡ Some k → k < 512 }
     {
-        let block = s / BLOCK;
-        self.left[s] = None;
-        self.fewest[block] = fewest_among(&self.left, block * BLOCK, block * BLOCK + BLOCK);
+        let left = self.left[t]?;
+        self.left[t] = None;
+        self.by_left[left].remove(t);
+        Some(left)
     }
-}
-
-/// The lesser of two counts, where there are two.
-fn fewer(first: Option<usize>, second: Option<usize>) -> Option<usize>
-    ensures { result ≡ fewer_of first second }
-{
-    match (first, second) {
-        (Some(first), Some(second)) => Some(first.min(second)),
-        (None, second) => second,
-        (first, None) => first,
-    }
-}
-
-/// The least count from one place of a table to before another.
-fn fewest_among(table: &[Option<usize>], from: usize, to: usize) -> Option<usize>
-    requires order { from ≤ to }
-    requires within { to ≤ length table.now }
-    ensures { IsFewest (λ t. (from ≤ t) × (t < to)) table.now result }
-{
-    let mut fewest = None;
-    for t in from..to {
-        fewest = fewer(fewest, table[t]);
-    }
-    fewest
-}
-
-/// The first place where a table has a count, from one place to before another.
-fn first_with(table: &[Option<usize>], count: usize, from: usize, to: usize) -> usize
-    requires within { to ≤ length table.now }
-    requires has { HasAmong (λ t. (from ≤ t) × (t < to)) table.now count }
-    ensures among { (from ≤ result) × (result < to) }
-    ensures has { entry table.now result ≡ Some count }
-    ensures first { (t : ℕ) → from ≤ t → entry table.now t ≡ Some count → result ≤ t }
-{
-    let mut place = from;
-    while table[place] != Some(count) {
-        place += 1;
-    }
-    place
 }

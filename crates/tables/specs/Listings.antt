@@ -1,4 +1,4 @@
-use Rattle.std.specs.Prelude.{ℕ, ◌+◌, cond, List, [], ◌∷◌, length, Ok, Err, Result, nat_lt}
+use Rattle.std.specs.Prelude.{ℕ, Bool, ◌+◌, cond, List, [], ◌∷◌, length, Ok, Err, Result, nat_lt}
 use Rattle.std.specs.Option.{ok_or}
 use Rattle.std.specs.List.{flat_map}
 use Rattle.text.specs.Texts.{lines, Part, tokens_of, decimal_of}
@@ -43,6 +43,10 @@ abbrev pub listed : Result (List (List ℕ)) Fault → Result Lists Fault
 listed (Ok rs) = Ok (listing rs)
 listed (Err e) = Err e
 
+-- Whether a text has more than a million bytes.
+abbrev pub is_too_long : List ℕ → Bool
+is_too_long text = nat_lt 1000000 (length text)
+
 -- The table that a text of at most a million bytes writes.
 abbrev pub table_of : List ℕ → Result Lists Fault
-table_of text = cond (nat_lt 1000000 (length text)) (Err too_long) (listed (rows_of 1 (lines text)))
+table_of text = cond (is_too_long text) (Err too_long) (listed (rows_of 1 (lines text)))

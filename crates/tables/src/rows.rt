@@ -1,10 +1,11 @@
 //! Reads a table row by row.
 
-ghost use Rattle.std.specs.Prelude.{◌≡◌, ◌+◌, ◌≤◌, [], ◌∷◌, length, vec_len};
+ghost use Rattle.std.specs.Prelude.{◌≡◌, ◌+◌, ◌≤◌, true, [], ◌∷◌, length, Err, vec_len};
 ghost use Rattle.text.specs.Texts.{lines};
 ghost use Rattle.text.specs.Cursors.{part_of};
 ghost use Rattle.view.specs.Listing.{lists};
-ghost use Rattle.tables.specs.Listings.{station_of, rows_of, listed, table_of};
+ghost use Rattle.tables.specs.declared.fault.Unread.TheVariants.{TooLong};
+ghost use Rattle.tables.specs.Listings.{station_of, rows_of, listed, is_too_long, table_of};
 ghost use Rattle.tables.specs.Answered.{listing_of, giving, Meant, with_rows};
 
 use crate::fault::Unread;
@@ -76,7 +77,8 @@ fn read_rows(heap: Global, text: &[u8]) -> Result<Table, Unread>
 
 /// The table that a text of at most a million bytes writes; its first line is that of station 0.
 pub fn read(heap: Global, text: &[u8]) -> Result<Table, Unread>
-    ensures { Meant (table_of text.now) (giving listing_of result) }
+    ensures table { Meant (table_of text.now) (giving listing_of result) }
+    ensures too_long { is_too_long text.now ≡ true → result ≡ Err TooLong }
 {
     if text.len() > LONGEST {
         return Err(Unread::TooLong);

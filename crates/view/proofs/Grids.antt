@@ -1,11 +1,10 @@
 -- Rows of bits that are sound show a lawful site.
 use Rattle.std.proofs.Common.{◌≡◌, ℕ, ◌+◌, ◌-◌, ◌*◌, ◌/◌, ◌%◌, ◌^◌, ◌<◌, ◌≤◌, true, false, ◌&&◌, eqb, List, [], Some, None, Option, length, filter, is_ok, get_or, take, sym, refl, ap, ◌∙◌, inl, inr, arith}
-use Rattle.std.proofs.Math.ListN.{get_or-eq_default, drop_of_length-le}
+use Rattle.std.proofs.Math.ListN.{drop_of_length-le}
 use Rattle.std.proofs.Math.Nat.{add-mul, mul-le-mul_right}
 use Rattle.std.proofs.Math.Seq.{take-nil}
 use Rattle.std.proofs.lemmas.Bool.{false_from_ne_true, cases_lt, both_ways, ne_eqb}
 use Rattle.std.proofs.lemmas.List.Edits.{length-between}
-use Rattle.std.proofs.lemmas.Nat.Bits.{bit_at-zero}
 use Rattle.std.specs.Option.{SomeIff, option_eq}
 use Rattle.std.specs.List.{range_with_len}
 use Rattle.cores.specs.Counting.{lowest}
@@ -18,6 +17,7 @@ use Rattle.view.specs.GridChecked.{checked}
 use Rattle.view.specs.GridTables.{Bit}
 use Rattle.view.proofs.Ranges.{none_kept, kept_longer, each_faithful}
 use Rattle.view.proofs.Bits.{bytes_listed}
+use Rattle.view.proofs.Ones.{one_past}
 
 -- a row has a bit for each station, and not many spare ones
 pub bits_enough : (n : ℕ) → (n ≤ 8 * row_length n) × (8 * row_length n ≤ n + 7)
@@ -52,7 +52,7 @@ length_tested n w v long (Some x) e (fits, is) small = rw (← e, ← is) (grind
 -- past the end of a row no bit is set
 pub cell_past : (b : Bitmap) (s t : ℕ) → length (row_bytes b s) ≤ t / 8 → cell b s t ≡ false
 unfolding cell
-cell_past b s t h = rw (get_or-eq_default (row_bytes b s) 0 h) (let zero = bit_at-zero (t % 8) in grind arith)
+cell_past b s t = one_past (row_bytes b s) t
 
 pub cell_at : (b : Bitmap) (s t byte : ℕ) → byte ≡ get_or (row_bytes b s) (t / 8) 0 → cell b s t ≡ bit_set byte (t % 8)
 unfolding cell

@@ -1,5 +1,5 @@
 -- The components of the stations of a level and above, level by level.
-use Rattle.std.proofs.Common.{◌≡◌, ℕ, ◌+◌, ◌<◌, ◌≤◌, true, false, ◌&&◌, ◌||◌, eqb, ltb, leb, List, length, get_or, sym, refl, ◌∙◌, inl, inr, arith}
+use Rattle.std.proofs.Common.{◌≡◌, ℕ, ◌+◌, ◌<◌, ◌≤◌, true, false, ◌&&◌, ◌||◌, eqb, ltb, leb, List, get_or, refl, ◌∙◌, inl, inr, arith}
 use mathlib.Core.Path.{fun_ext}
 use Rattle.std.proofs.lemmas.Bool.{cases_eq, or_cases, or_right, eq-eqb, eqb-true}
 use Rattle.cores.specs.Site.{Site, Lawful}
@@ -8,8 +8,8 @@ use Rattle.cores.specs.ByNumbers.{at_least, connected_by}
 use Rattle.cores.proofs.Searches.{same_test, by_cases}
 use Rattle.cores.proofs.Reaching.{same_or, parted_equivalence, chain_last}
 use Rattle.cores.proofs.ByNumbers.{level_number, level_from, level_parts, level_chain, level_link}
-use Rattle.view.specs.Components.{together, AreComponents, with_links_of, links_at}
-use Rattle.view.proofs.Joining.{Links}
+use Rattle.view.specs.Components.{together, AreComponents, AreSettled, with_links_of, links_at}
+use Rattle.view.proofs.Joining.{Links, linked_together, together_only}
 
 module _ (g : Site) (c : ℕ → ℕ) where
   -- the links above a level, and those from its stations below i
@@ -50,20 +50,20 @@ module _ (g : Site) (c : ℕ → ℕ) where
   so_far_here k i a b l h d o = grind arith
 
   -- a level is joined once the links from all of its stations are taken
-  pub level_joined : Lawful g → (k : ℕ) (labels : List ℕ) → AreComponents (links_so_far k g.size) labels → AreComponents (links_at g c k) labels
-  level_joined law k labels p = record { joined = joined; only = λ R equivalence within. p.only R equivalence (λ a b e. within a b (so_far_at_level k g.size a b e)) }
-    where
-      joined : (a b : ℕ) → a < length labels → b < length labels → links_at g c k a b ≡ true → together labels a b ≡ true
-      joined a b h l e =
-          let (linked, low, high) = at_level k a b e in
-          let (on, off) = law.inside a b linked in
-          elim (cases_eq (c a) k) [
-            | inl d ↦ p.joined a b h l (so_far_here k g.size a b linked on d high)
-            | inr d ↦ elim (cases_eq (c b) k) [
-              | inl x ↦ eq-eqb _ _ (sym (eqb-true _ _ (p.joined b a l h (so_far_here k g.size b a (law.both_ways b a ∙ linked) off x low))))
-              | inr x ↦ p.joined a b h l (so_far_above k g.size a b linked (omega arith) (omega arith))
-            ]
+  pub level_joined : Lawful g → (k : ℕ) (labels : List ℕ) → AreComponents g.size (links_so_far k g.size) labels → AreComponents g.size (links_at g c k) labels
+  level_joined law k labels p = record {
+    joined = λ R equivalence has a b h l e.
+        let (linked, low, high) = at_level k a b e in
+        let near = p.joined R equivalence has in
+        elim (cases_eq (c a) k) [
+          | inl d ↦ near a b h l (so_far_here k g.size a b linked h d high)
+          | inr d ↦ elim (cases_eq (c b) k) [
+            | inl x ↦ equivalence.symm a b ∙ near b a l h (so_far_here k g.size b a (law.both_ways b a ∙ linked) l x low)
+            | inr x ↦ near a b h l (so_far_above k g.size a b linked (omega arith) (omega arith))
           ]
+        ];
+    only = λ R equivalence within. p.only R equivalence (λ a b e. within a b (so_far_at_level k g.size a b e));
+  }
 
   -- above all numbers there are no links
   pub no_links_above : Lawful g → (k : ℕ) → ((s : ℕ) → s < g.size → c s < k) → links_at g c k ≡ (λ s t. false)
@@ -81,21 +81,21 @@ module _ (g : Site) (c : ℕ → ℕ) where
       from_level (k + 1) a b linked (omega (arith, none a on)) (omega (arith, none b off)))))
 
   -- the components of a level connect what is connected there
-  module _ (law : Lawful g) (k : ℕ) (labels : List ℕ) (few : g.size ≤ length labels) (p : AreComponents (links_at g c k) labels) where
+  module _ (law : Lawful g) (k : ℕ) (labels : List ℕ) (settled : AreSettled g.size labels) (p : AreComponents g.size (links_at g c k) labels) where
     chain_together : (s : ℕ) {t : ℕ} → Chain g (at_least g c k) s t → get_or labels s 0 ≡ get_or labels t 0
     chain_together s (start x) = refl
     chain_together s (step {t = t} {u = u} chain l x) =
         let (on, off) = law.inside t u l in
         let last = chain_last g (at_least g c k) s chain in
         chain_together s chain
-        ∙ eqb-true _ _ (p.joined t u (omega arith) (omega arith) (from_level k t u l (level_number g c k t last) (level_number g c k u x)))
+        ∙ eqb-true _ _ (linked_together g.size (links_at g c k) labels settled p t u on off (from_level k t u l (level_number g c k t last) (level_number g c k u x)))
 
     together_connected : (s t : ℕ) → s < g.size → t < g.size → k ≤ c s → together labels s t ≡ true → connected_by g c k s t ≡ true
     together_connected s t h l o e =
         let parts = level_parts g c law k in
-        let both = p.only (same_or (connected_by g c k)) (parted_equivalence (at_least g c k) (connected_by g c k) parts)
+        let both = together_only g.size (links_at g c k) labels settled p (same_or (connected_by g c k)) (parted_equivalence (at_least g c k) (connected_by g c k) parts)
         (λ a b x. let (linked, m, n) = at_level k a b x in or_right (eqb a b) (connected_by g c k a b) (level_link g c law k a b linked m n))
-        s t (omega arith) (omega arith) e in
+        s t h l e in
         elim (or_cases (eqb s t) (connected_by g c k s t) both) [
           | inl same ↦ rw (← eqb-true s t same) (parts.itself s (level_from g c k s h o))
           | inr connected ↦ connected

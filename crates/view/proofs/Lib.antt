@@ -1,5 +1,6 @@
 pub mod Admitted
 pub mod Bits
+pub mod Words
 pub mod Ones
 pub mod Checks
 pub mod Filtered

@@ -1,13 +1,14 @@
--- The first bit that is set in a row of bytes from a bit on, looked for a byte at a time.
+-- The first bit that is set in a row of bytes from a bit on, looked for a word at a time.
 use Rattle.std.proofs.Common.{◌≡◌, ℕ, zero, suc, ◌+◌, ◌-◌, ◌*◌, ◌/◌, ◌%◌, ◌^◌, ◌<◌, ◌≤◌, ◌≢◌, Bool, true, false, eqb, cond, List, [], ◌∷◌, filter, length, get_or, Some, sym, refl, ap, ◌∙◌, inl, inr, arith}
-use Rattle.std.specs.Int.{bit_at, trailing_zeros, w8}
+use Rattle.std.specs.Int.{bit_at, trailing_zeros, w64}
 use Rattle.std.specs.List.{range_with_len, find, slice_get}
-use Rattle.std.proofs.lemmas.Bool.{cases_lt}
-use Rattle.std.proofs.lemmas.Nat.{shr-shr}
-use Rattle.std.proofs.Math.Nat.{div-le_self}
+use Rattle.std.proofs.Math.ListN.{get_or-eq_default}
+use Rattle.std.proofs.lemmas.Bool.{cases_lt, both_ways}
+use Rattle.std.proofs.lemmas.Nat.{shr-shr, shr_le}
 use Rattle.std.proofs.lemmas.Nat.Bits.{bit_at-zero, bit_at_above, bit_at-trailing_zeros}
 use Rattle.view.specs.Bits.{bit_set, one_at}
 use Rattle.view.specs.Rows.{StandsBefore}
+use Rattle.view.proofs.Words.{word, word_small, word_bits}
 
 -- a search along a range, past those that do not pass
 find_behind : (p : ℕ → Bool) (a k m : ℕ) → ((i : ℕ) → i < k → p (a + i) ≡ false) → find p (range_with_len a (k + m)) ≡ find p (range_with_len (a + k) m)
@@ -27,46 +28,64 @@ find_here p a k n h none here =
     let long : n ≡ k + suc (n - k - 1) = omega arith in
     ap (λ m. find p (range_with_len a m)) long ∙ find_behind p a k (suc (n - k - 1)) none ∙ rw here refl
 
--- what is left of the byte of a bit, from the bit on
-abbrev pub rest_of : List ℕ → ℕ → ℕ
-rest_of row bit = get_or row (bit / 8) 0 / 2 ^ (bit % 8)
+-- no bit is set behind the end of a row
+pub one_past : (row : List ℕ) (t : ℕ) → length row ≤ t / 8 → one_at row t ≡ false
+one_past row t h = ap (λ byte. bit_set byte (t % 8)) (get_or-eq_default row 0 h) ∙ ap (λ n. eqb n 1) (bit_at-zero (t % 8))
 
--- in that byte
-module _ (row : List ℕ) (bit : ℕ) (small : get_or row (bit / 8) 0 < 256) where
-  in_byte : (i : ℕ) → bit % 8 + i < 8 → one_at row (bit + i) ≡ eqb (bit_at (rest_of row bit) i) 1
-  in_byte i h =
-      let byte : (bit + i) / 8 ≡ bit / 8 = omega arith in
-      let place : (bit + i) % 8 ≡ bit % 8 + i = omega arith in
-      ap (λ k. bit_set (get_or row k 0) ((bit + i) % 8)) byte
-      ∙ ap (bit_set (get_or row (bit / 8) 0)) place
-      ∙ ap (λ n. eqb (n % 2) 1) (sym (shr-shr (get_or row (bit / 8) 0) (bit % 8) i))
+one_within : (row : List ℕ) (t : ℕ) → one_at row t ≡ true → t < 8 * length row
+one_within row t one = elim (cases_lt (t / 8) (length row)) [
+  | inl l ↦ omega arith
+  | inr past ↦ absurd (both_ways (one_at row t) (one_past row t past) one)
+]
 
-  none_in_byte : rest_of row bit ≡ 0 → (i : ℕ) → bit % 8 + i < 8 → one_at row (bit + i) ≡ false
-  none_in_byte e i h = in_byte i h ∙ ap (λ n. eqb (bit_at n i) 1) e ∙ ap (λ n. eqb n 1) (bit_at-zero i)
+module _ (row : List ℕ) (small : (k : ℕ) → get_or row k 0 < 256) (bit w : ℕ) (is : w ≡ word row (bit / 64)) where
+  -- what is left of the word of a bit, from the bit on
+  abbrev rest : ℕ
+  rest = w / 2 ^ (bit % 64)
 
-  -- the first bit is in this byte, or in those behind it
-  pub found_in_byte : bit < 8 * length row → 0 < rest_of row bit
-      → find (one_at row) (range_with_len bit (8 * length row - bit)) ≡ Some (bit + trailing_zeros w8 (rest_of row bit))
-  found_in_byte on some =
-      let (short, set, clear) = bit_at-trailing_zeros w8 (rest_of row bit) some (omega (arith, div-le_self (get_or row (bit / 8) 0) (2 ^ (bit % 8)))) in
-      let k = trailing_zeros w8 (rest_of row bit) in
-      let here : bit % 8 + k < 8 = elim (cases_lt (bit % 8 + k) 8) [
+  small_word : w < 2 ^ 64
+  small_word = omega (arith, is, word_small row small (bit / 64))
+
+  in_word : (i : ℕ) → bit % 64 + i < 64 → one_at row (bit + i) ≡ eqb (bit_at rest i) 1
+  in_word i h =
+      let place : bit + i ≡ 64 * (bit / 64) + (bit % 64 + i) = omega arith in
+      ap (one_at row) place ∙ word_bits row small (bit / 64) (bit % 64 + i) h ∙ ap (λ n. bit_set n (bit % 64 + i)) (sym is) ∙ ap (λ n. eqb (n % 2) 1) (sym (shr-shr w (bit % 64) i))
+
+  none_in_word : rest ≡ 0 → (i : ℕ) → bit % 64 + i < 64 → one_at row (bit + i) ≡ false
+  none_in_word e i h = in_word i h ∙ ap (λ n. eqb (bit_at n i) 1) e ∙ ap (λ n. eqb n 1) (bit_at-zero i)
+
+  -- the first bit is in this word, or in those behind it
+  pub found_in_word : 0 < rest → find (one_at row) (range_with_len bit (8 * length row - bit)) ≡ Some (bit + trailing_zeros w64 rest)
+  found_in_word some =
+      let (short, set, clear) = bit_at-trailing_zeros w64 rest some (omega (arith, small_word, shr_le w (bit % 64))) in
+      let k = trailing_zeros w64 rest in
+      let here : bit % 64 + k < 64 = elim (cases_lt (bit % 64 + k) 64) [
         | inl l ↦ l
-        | inr far ↦ absurd (omega (arith, set, ap (λ n. n % 2) (shr-shr (get_or row (bit / 8) 0) (bit % 8) k), bit_at_above (get_or row (bit / 8) 0) 8 (bit % 8 + k) small far))
+        | inr far ↦ absurd (omega (arith, set, ap (λ n. n % 2) (shr-shr w (bit % 64) k), bit_at_above w 64 (bit % 64 + k) small_word far))
       ] in
-      find_here (one_at row) bit k (8 * length row - bit) (omega arith)
-      (λ i h. in_byte i (omega arith) ∙ ap (λ n. eqb n 1) (clear i h))
-      (in_byte k here ∙ ap (λ n. eqb n 1) set)
+      let one : one_at row (bit + k) ≡ true = in_word k here ∙ ap (λ n. eqb n 1) set in
+      find_here (one_at row) bit k (8 * length row - bit) (omega (arith, one_within row (bit + k) one)) (λ i h. in_word i (omega arith) ∙ ap (λ n. eqb n 1) (clear i h)) one
 
-  pub found_behind : bit < 8 * length row → rest_of row bit ≡ 0
-      → find (one_at row) (range_with_len bit (8 * length row - bit)) ≡ find (one_at row) (range_with_len (8 * (bit / 8 + 1)) (8 * length row - 8 * (bit / 8 + 1)))
+  pub found_behind : bit < 8 * length row → rest ≡ 0
+      → find (one_at row) (range_with_len bit (8 * length row - bit)) ≡ find (one_at row) (range_with_len (64 * (bit / 64 + 1)) (8 * length row - 64 * (bit / 64 + 1)))
   found_behind on none =
-      let next = 8 * (bit / 8 + 1) in
-      let long : 8 * length row - bit ≡ (next - bit) + (8 * length row - next) = omega arith in
-      let from : bit + (next - bit) ≡ next = omega arith in
-      ap (λ n. find (one_at row) (range_with_len bit n)) long
-      ∙ find_behind (one_at row) bit (next - bit) (8 * length row - next) (λ i h. none_in_byte none i (omega arith))
-      ∙ ap (λ b. find (one_at row) (range_with_len b (8 * length row - next))) from
+      let end = 8 * length row in
+      let next = 64 * (bit / 64 + 1) in
+      let clear : (i : ℕ) → i < next - bit → one_at row (bit + i) ≡ false = λ i h. none_in_word none i (omega arith) in
+      elim (cases_lt end next) [
+        | inl last ↦
+            let long : end - bit ≡ (end - bit) + 0 = omega arith in
+            let over : 0 ≡ end - next = omega arith in
+            ap (λ n. find (one_at row) (range_with_len bit n)) long
+            ∙ find_behind (one_at row) bit (end - bit) 0 (λ i h. clear i (omega arith))
+            ∙ ap (λ n. find (one_at row) (range_with_len next n)) over
+        | inr more ↦
+            let long : end - bit ≡ (next - bit) + (end - next) = omega arith in
+            let from : bit + (next - bit) ≡ next = omega arith in
+            ap (λ n. find (one_at row) (range_with_len bit n)) long
+            ∙ find_behind (one_at row) bit (next - bit) (end - next) clear
+            ∙ ap (λ b. find (one_at row) (range_with_len b (end - next))) from
+      ]
 
 -- the first of what a test keeps is what a search finds
 pub first_kept : (p : ℕ → Bool) (xs : List ℕ) → slice_get (filter p xs) 0 ≡ find p xs

@@ -1,17 +1,19 @@
 -- What the two lists say of shape and of rows, as the code asks them.
-use Rattle.std.proofs.Common.{◌≡◌, ℕ, ◌+◌, ◌-◌, ◌<◌, min, not, ◌||◌, ltb, refl, Bool, true, false, List, [], length, take, drop, None, Some, Option, Bor, inl, inr, sym, ap, ◌∙◌, arith, length-drop, nat_cmp}
-use Rattle.std.specs.List.{between, IsAllAdjacentAnswer, list_any}
+use Rattle.std.proofs.Common.{◌≡◌, ℕ, ◌+◌, ◌-◌, ◌<◌, min, not, ◌||◌, eqb, ltb, refl, Bool, true, false, List, [], length, take, drop, None, Some, Option, Bor, inl, inr, sym, ap, ◌∙◌, arith, length-drop, nat_cmp}
+use Rattle.std.specs.List.{between, slice_get, IsAllAdjacentAnswer, list_any}
 use Rattle.std.specs.Fn.{Called, ComputesOnPairs, Mut}
-use Rattle.std.specs.Option.{UnwrapsOrElse}
+use Rattle.std.specs.Option.{UnwrapsOrElse, option_eq}
 use Rattle.std.specs.Ordering.{is_le, is_some_and}
 use Rattle.std.specs.Slice.{IsGetRangeResult}
 use Rattle.std.proofs.lemmas.Fn.{always_returns_same}
 use Rattle.std.proofs.lemmas.List.{take_min, get_or_default}
 use Rattle.std.proofs.lemmas.List.Sorted.{non_decreasing_from_is_sorted}
-use Rattle.std.proofs.lemmas.Bool.{le-leb, lt-leb}
+use Rattle.std.proofs.lemmas.Bool.{le-leb, lt-leb, eqb-true, false≢true}
+use Rattle.std.proofs.lemmas.Option.{slice_get_within, get_or_from_slice_get}
 use Rattle.std.proofs.lemmas.List.Folds.{Any-from_list_any, list_any_at}
-use Rattle.cores.specs.Counting.{some}
+use Rattle.cores.specs.Counting.{some, holds}
 use Rattle.cores.proofs.Searches.{same_test, all_from, all_fails, some_one, some_found}
+use Rattle.cores.proofs.Entries.{held_where_it_stands}
 use Rattle.view.specs.Listing.{Lists, stations, never_falls, row, no_neighbour, bad_entry, bad_row}
 
 -- a part that would pass the end stops there
@@ -27,6 +29,14 @@ part_or_none xs i j None x (none, _) is =
     let zero : min (length xs) j - i ≡ 0 = elim none [ inl h ↦ omega arith | inr h ↦ omega arith ] in
     is ∙ sym (ap (λ n. take n (drop i xs)) zero) ∙ cut xs i j
 part_or_none xs i j (Some y) x (some, _) is = ap (λ (z : Bor (List ℕ)). z.now) is ∙ some.2 ∙ cut xs i j
+
+-- the number at a place of a list stands in it
+pub held_at : (xs : List ℕ) (place t : ℕ) → option_eq eqb (slice_get xs place) (Some t) ≡ true → holds xs t ≡ true
+held_at xs place t e = go (slice_get xs place) refl e
+  where
+    go : (o : Option ℕ) → slice_get xs place ≡ o → option_eq eqb o (Some t) ≡ true → holds xs t ≡ true
+    go None found e = absurd (false≢true e)
+    go (Some x) found e = (held_where_it_stands xs t).1 place (slice_get_within xs place x found) (get_or_from_slice_get xs place x 0 found ∙ eqb-true x t e)
 
 -- starts never fall if they are sorted
 pub never_falls_sorted : (ls : Lists) (r : Bool) → IsAllAdjacentAnswer (λ x y b. is_some_and is_le (Some (nat_cmp x y)) ≡ b) ls.starts r → r ≡ never_falls ls

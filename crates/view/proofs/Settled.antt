@@ -6,20 +6,20 @@ use Rattle.cores.specs.Site.{Site, Lawful}
 use Rattle.cores.specs.ByNumbers.{connected_by, core_home_by, home_by}
 use Rattle.cores.proofs.Searches.{lowest_same}
 use Rattle.view.specs.Ups.{up_in_table}
-use Rattle.view.specs.Components.{together, AreComponents, links_at, lowest_with}
+use Rattle.view.specs.Components.{together, AreComponents, AreSettled, links_at, lowest_with}
 use Rattle.view.specs.Settling.{rewritten, home_at_level, waits, up_at_level}
 use Rattle.view.proofs.Levels.{component_connected}
 use Rattle.view.proofs.Written.{rewritten_behind, rewritten_more, rewritten_kept}
 
 -- the components of a level by a table of numbers, and a station s of the site
-module _ (g : Site) (law : Lawful g) (numbers : List ℕ) (right : length numbers ≡ g.size) (k : ℕ) (labels : List ℕ) (few : g.size ≤ length labels)
-    (p : AreComponents (links_at g (slice_index numbers) k) labels) (s : ℕ) (on_site : s < g.size) where
+module _ (g : Site) (law : Lawful g) (numbers : List ℕ) (right : length numbers ≡ g.size) (k : ℕ) (labels : List ℕ) (settled : AreSettled g.size labels)
+    (p : AreComponents g.size (links_at g (slice_index numbers) k) labels) (s : ℕ) (on_site : s < g.size) where
   lowest_home : k ≤ get_or numbers s 0 → lowest_with numbers labels k s ≡ core_home_by g (slice_index numbers) k s
   unfolding core_home_by
   lowest_home o =
       let c : ℕ → ℕ = slice_index numbers in
       rw right (lowest_same g.size (λ t. eqb (c t) k && together labels s t) (λ t. eqb (c t) k && connected_by g c k s t)
-      (λ t l. let same = component_connected g c law k labels few p s t on_site l o in grind arith))
+      (λ t l. let same = component_connected g c law k labels settled p s t on_site l o in grind arith))
 
   own_home : get_or numbers s 0 ≡ k → unwrap_or (lowest_with numbers labels k s) s ≡ home_by g (slice_index numbers) s
   unfolding home_by

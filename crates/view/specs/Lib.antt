@@ -1,5 +1,4 @@
 pub mod Rows
-pub mod Neighbours
 pub mod Answers
 pub mod Ups
 pub mod Listing

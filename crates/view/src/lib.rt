@@ -2,7 +2,7 @@
 #![tactic(auto)]
 
 ghost use Rattle.std.specs.Prelude.{◌≡◌, ℕ, List, length};
-ghost use Rattle.std.specs.List.{slice_get, between};
+ghost use Rattle.std.specs.List.{slice_get};
 ghost use Rattle.cores.specs.Site.{Site};
 ghost use Rattle.view.specs.Rows.{Faithful, StandsBefore};
 
@@ -55,10 +55,9 @@ pub trait View {
     /// The law of a view.
     ghost faithful: { (v : Self) → Faithful (site v) (row v) };
 
-    // `Neighbours.left` written out, since its file builds on the trait
     /// The neighbours of a station, one after the other.
     final fn neighbours(&self, s: usize) -> Neighbours<'_, Self>
-        ensures { between result.places.start result.places.end (row result.view.now result.station) ≡ row self.now s }
+        ensures { result ≡ row self.now s }
     {
         Neighbours::new(self, s)
     }

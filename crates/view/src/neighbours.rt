@@ -1,8 +1,12 @@
 //! A walk along the neighbours of a station.
 
+ghost use Rattle.std.specs.Prelude.{◌≡◌, ℕ, List};
+ghost use Rattle.std.specs.List.{between};
+ghost use Rattle.std.specs.Iterator.{YieldsFirst, item_count};
 ghost use Rattle.view.specs.Rows.{StandsBefore};
 
 use crate::View;
+use std::marker::Model;
 use std::ops::Range;
 
 /// The neighbours of a station, in the order of the view. The last one is kept, as the next is asked for with it.
@@ -12,18 +16,22 @@ pub struct Neighbours<'a, V: View> {
     station: usize,
     places: Range<usize>,
     before: usize,
-    ghost stands: { StandsBefore (V.View.row view.now station) places.start before },
+}
+
+impl<'a, V: View> Model for Neighbours<'a, V> {
+    ghost Value = { List ℕ };
+
+    ghost view = { λ walk. between walk.places.start walk.places.end (V.View.row walk.view.now walk.station) };
+
+    ghost invariant = { λ walk. StandsBefore (V.View.row walk.view.now walk.station) walk.places.start walk.before };
 }
 
 impl<V: View> Iterator for Neighbours<'_, V> {
-    ghost use Rattle.std.specs.Iterator.{YieldsFirst, item_count};
-    ghost use Rattle.view.specs.Neighbours.{left};
-
     type Item = usize;
 
-    ghost next_gives = { YieldsFirst (left V.View.row) };
+    ghost next_gives = { YieldsFirst (λ rest. rest) };
 
-    ghost remaining = { item_count (left V.View.row) };
+    ghost remaining = { item_count (λ rest. rest) };
 
     fn next(&mut self) -> Option<usize> {
         if self.places.is_empty() {
@@ -39,12 +47,9 @@ impl<V: View> Iterator for Neighbours<'_, V> {
 }
 
 impl<'a, V: View> Neighbours<'a, V> {
-    ghost use Rattle.std.specs.Prelude.{◌≡◌};
-    ghost use Rattle.view.specs.Neighbours.{left};
-
     /// The neighbours of a station of a view.
     pub(crate) fn new(view: &'a V, station: usize) -> Neighbours<'a, V>
-        ensures { left V.View.row result ≡ V.View.row view.now station }
+        ensures { result ≡ V.View.row view.now station }
     {
         Neighbours {
             view,

@@ -122,6 +122,28 @@ fn a_row_of_two_bytes_is_walked(rt: HostRuntime) {
     assert_eq!(rt; count_links(&view), Ok(3));
 }
 
+/// 75 stations in rows of a word and two bytes more, of which 1, 63, 64 and 74 are linked with 0.
+#[test]
+fn a_row_of_more_than_a_word_is_walked(rt: HostRuntime) {
+    let mut bytes = [0; 750];
+    bytes[0] = 0b10;
+    bytes[7] = 0b1000_0000;
+    bytes[8] = 1;
+    bytes[9] = 0b100;
+    bytes[10] = 1;
+    bytes[630] = 1;
+    bytes[640] = 1;
+    bytes[740] = 1;
+    let view = Square::open(Grid {
+        stations: 75,
+        bytes: &bytes,
+    });
+    assert_eq!(rt; (view.stations(), view.degree(0)), (75, 4));
+    assert!(rt; view.neighbours(0).eq([1, 63, 64, 74]));
+    assert!(rt; view.neighbours(74).eq([0]));
+    assert_eq!(rt; count_links(&view), Ok(4));
+}
+
 #[test]
 fn a_refused_grid_opens_without_stations(rt: HostRuntime) {
     let view = Square::open(Grid {

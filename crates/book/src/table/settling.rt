@@ -1,10 +1,12 @@
 //! Numbers that fall.
 
-ghost use Rattle.std.specs.Prelude.{◌≡◌, ◌∷◌, List, ℕ, [], slice_index};
+ghost use Rattle.std.specs.Prelude.{◌≡◌, ◌≢◌, Bool, true, false, ℕ, [], slice_index};
+ghost use Rattle.cores.specs.Counting.{holds};
 ghost use Rattle.cores.specs.Numbers.{number};
 ghost use Rattle.book.specs.Queues.{noted};
-ghost use Rattle.book.specs.Tables.{links, numbers, site_of, Sound};
-ghost use Rattle.book.specs.Updates.{support as support_of, falls as falls_from, AtMostOneHigh, Lowering, Watched};
+ghost use Rattle.book.specs.Tables.{links, numbers, places, site_of, Sound};
+ghost use Rattle.book.specs.Current.{BearsOut};
+ghost use Rattle.book.specs.Updates.{support as support_of, falls as falls_from, AtMostOneHigh, Lowering, FallersWatched};
 
 use super::Table;
 use crate::queue::Queue;
@@ -28,27 +30,30 @@ impl Table {
         self.number(s) == level && self.support(s, level) < usize::from(level)
     }
 
-    /// Lowers a station that falls by one, and notes it.
+    /// Lowers a station that falls by one, puts it behind those of its new number, and notes it.
     fn doubt(&mut self, s: usize, level: u16, fallen: &mut Queue)
-        requires { Lowering (links self.old) level (numbers self.old) (noted fallen.old) }
+        requires { Lowering (links self.old) level (numbers self.old) (places self.old) (noted fallen.old) }
         ensures links { links self.new ≡ links self.old }
-        ensures lowering { Lowering (links self.old) level (numbers self.new) (noted fallen.new) }
-        ensures watched { (rest : List ℕ) (v : ℕ) → Watched (links self.old) level (numbers self.old) (s ∷ rest) (noted fallen.old) v
-            → Watched (links self.old) level (numbers self.new) rest (noted fallen.new) v }
+        ensures lowering { Lowering (links self.old) level (numbers self.new) (places self.new) (noted fallen.new) }
+        ensures watched { (listed rest : ℕ → Bool) (v : ℕ) → ((t : ℕ) → (t ≢ s) → listed t ≡ true → rest t ≡ true)
+            → FallersWatched (links self.old) level (numbers self.old) listed (noted fallen.old) v
+            → FallersWatched (links self.old) level (numbers self.new) rest (noted fallen.new) v }
     {
         if self.falls(s, level) {
             self.renumber(s, level - 1);
+            self.order.put_last(s);
             fallen.push(s);
         }
     }
 
     /// Lowers those of some stations that fall.
     fn doubt_all(&mut self, stations: &[u16], level: u16, fallen: &mut Queue)
-        requires { Lowering (links self.old) level (numbers self.old) (noted fallen.old) }
+        requires { Lowering (links self.old) level (numbers self.old) (places self.old) (noted fallen.old) }
         ensures links { links self.new ≡ links self.old }
-        ensures lowering { Lowering (links self.old) level (numbers self.new) (noted fallen.new) }
-        ensures watched { (v : ℕ) → Watched (links self.old) level (numbers self.old) stations.now (noted fallen.old) v
-            → Watched (links self.old) level (numbers self.new) [] (noted fallen.new) v }
+        ensures lowering { Lowering (links self.old) level (numbers self.new) (places self.new) (noted fallen.new) }
+        ensures watched { (v : ℕ)
+            → FallersWatched (links self.old) level (numbers self.old) (holds stations.now) (noted fallen.old) v
+            → FallersWatched (links self.old) level (numbers self.new) (λ t. false) (noted fallen.new) v }
     {
         for s in stations {
             self.doubt(usize::from(*s), level, fallen);
@@ -60,9 +65,11 @@ impl Table {
     pub(crate) fn settle(&mut self, doubtful: &[u16], level: u16)
         requires sound { Sound (links self.old) }
         requires high { AtMostOneHigh (site_of (links self.old)) level (numbers self.old) }
-        requires watched { Watched (links self.old) level (numbers self.old) doubtful.now [] 0 }
+        requires bears_out { BearsOut (links self.old) (numbers self.old) (places self.old) }
+        requires watched { FallersWatched (links self.old) level (numbers self.old) (holds doubtful.now) [] 0 }
         ensures links { links self.new ≡ links self.old }
         ensures right { (s : ℕ) → slice_index (numbers self.new) s ≡ number (site_of (links self.old)) s }
+        ensures bears_out { BearsOut (links self.old) (numbers self.new) (places self.new) }
     {
         let mut fallen = Queue::new();
         self.doubt_all(doubtful, level, &mut fallen);

@@ -17,7 +17,7 @@ pub(super) struct Numbered<'a, V: View> {
 impl<V: View> Numbered<'_, V> {
     ghost use Rattle.std.specs.Prelude.{ℕ, Bool, ◌+◌, ◌<◌, ◌↔◌, IsTrue, IfSome, EachIndex, slice_index};
     ghost use Rattle.std.specs.List.{Contains};
-    ghost use Rattle.view.specs.Components.{AreComponents, with_links_of, links_at, lowest_with};
+    ghost use Rattle.view.specs.Components.{AreComponents, AreSettled, with_links_of, links_at, lowest_with};
 
     /// Whether some station has a number.
     pub(super) fn has(&self, number: u16) -> bool
@@ -38,8 +38,8 @@ impl<V: View> Numbered<'_, V> {
     fn join_neighbours(&self, components: &mut Components, s: usize)
         requires { s < length self.now.numbers.now }
         ensures { let g = V.View.site self.now.view.now in let c = slice_index self.now.numbers.now in
-            (links : ℕ → ℕ → Bool) → AreComponents links components.old.labels
-            → AreComponents (with_links_of g c links s) components.new.labels }
+            (links : ℕ → ℕ → Bool) → AreComponents g.size links components.old.labels
+            → AreComponents g.size (with_links_of g c links s) components.new.labels }
     {
         for t in self.view.neighbours(s) {
             if self.numbers[s] <= self.numbers[t] {
@@ -51,18 +51,20 @@ impl<V: View> Numbered<'_, V> {
     /// From the components of the stations above a level to those of the level and above.
     pub(super) fn join_level(&self, components: &mut Components, level: u16)
         requires { let g = V.View.site self.now.view.now in let c = slice_index self.now.numbers.now in
-            AreComponents (links_at g c (level + 1)) components.old.labels }
-        ensures { let g = V.View.site self.now.view.now in let c = slice_index self.now.numbers.now in
-            AreComponents (links_at g c level) components.new.labels }
+            AreComponents g.size (links_at g c (level + 1)) components.old.labels }
+        ensures joined { let g = V.View.site self.now.view.now in let c = slice_index self.now.numbers.now in
+            AreComponents g.size (links_at g c level) components.new.labels }
+        ensures settled { AreSettled (V.View.site self.now.view.now).size components.new.labels }
     {
         for s in 0..self.numbers.len() {
             if self.numbers[s] == level {
                 self.join_neighbours(components, s);
             }
         }
+        components.settle(self.numbers.len());
     }
 
-    /// The lowest station of a number in the component of a station, if there is one.
+    /// The lowest station of a number with the label of a station, if there is one.
     pub(super) fn lowest(&self, components: &Components, number: u16, s: usize) -> Option<usize>
         requires { s < length self.now.numbers.now }
         ensures lowest { result ≡ lowest_with self.now.numbers.now components.now.labels number s }

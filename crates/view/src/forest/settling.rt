@@ -8,13 +8,14 @@ impl<V: View> Numbered<'_, V> {
     ghost use Rattle.std.specs.Prelude.{◌≡◌, ◌+◌, ◌<◌, ◌≤◌, ◌++◌, length, map, drop, slice_index};
     ghost use Rattle.view.specs.Ups.{up_in_table};
     ghost use Rattle.view.specs.Forest.{forest_by};
-    ghost use Rattle.view.specs.Components.{AreComponents, links_at};
+    ghost use Rattle.view.specs.Components.{AreComponents, AreSettled, links_at};
     ghost use Rattle.view.specs.Settling.{rewritten, home_at_level, waits, up_at_level};
 
     /// Writes the homes of the stations of a level, given the components of the level.
     fn settle_homes(&self, components: &Components, level: u16, homes: &mut [u16])
         requires joined { let g = V.View.site self.now.view.now in let c = slice_index self.now.numbers.now in
-            AreComponents (links_at g c level) components.now.labels }
+            AreComponents g.size (links_at g c level) components.now.labels }
+        requires settled { AreSettled (V.View.site self.now.view.now).size components.now.labels }
         requires room { length self.now.numbers.now ≤ length homes.old }
         ensures { let g = V.View.site self.now.view.now in let c = slice_index self.now.numbers.now in
             homes.new ≡ rewritten (length self.now.numbers.now) (home_at_level g c level) homes.old }
@@ -41,7 +42,8 @@ impl<V: View> Numbered<'_, V> {
     /// Writes the ups that are of a level, given the components of the level.
     fn settle_ups(&self, components: &Components, level: u16, homes: &[u16], ups: &mut [u16])
         requires joined { let g = V.View.site self.now.view.now in let c = slice_index self.now.numbers.now in
-            AreComponents (links_at g c level) components.now.labels }
+            AreComponents g.size (links_at g c level) components.now.labels }
+        requires settled { AreSettled (V.View.site self.now.view.now).size components.now.labels }
         requires homes_there { length self.now.numbers.now ≤ length homes.now }
         requires room { length self.now.numbers.now ≤ length ups.old }
         ensures { let g = V.View.site self.now.view.now in let c = slice_index self.now.numbers.now in
@@ -65,11 +67,11 @@ impl<V: View> Numbered<'_, V> {
         ups: &mut [u16],
     )
         requires above { let g = V.View.site self.now.view.now in let c = slice_index self.now.numbers.now in
-            AreComponents (links_at g c (level + 1)) components.old.labels }
+            AreComponents g.size (links_at g c (level + 1)) components.old.labels }
         requires homes_room { length self.now.numbers.now ≤ length homes.old }
         requires ups_room { length self.now.numbers.now ≤ length ups.old }
         ensures joined { let g = V.View.site self.now.view.now in let c = slice_index self.now.numbers.now in
-            AreComponents (links_at g c level) components.new.labels }
+            AreComponents g.size (links_at g c level) components.new.labels }
         ensures homes { let g = V.View.site self.now.view.now in let c = slice_index self.now.numbers.now in
             homes.new ≡ rewritten (length self.now.numbers.now) (home_at_level g c level) homes.old }
         ensures ups { let g = V.View.site self.now.view.now in let c = slice_index self.now.numbers.now in

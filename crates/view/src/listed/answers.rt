@@ -22,6 +22,6 @@ impl View for Listed<'_> {
     }
 
     fn neighbour(&self, s: usize, place: usize) -> Option<usize> {
-        self.listing.row(s).get(place).map(|t| usize::from(*t))
+        self.listing.entry(s, place)
     }
 }

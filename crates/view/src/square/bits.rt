@@ -1,6 +1,7 @@
-//! The bits that are set in a row of bytes, counted a byte at a time.
+//! The bits that are set in a row of bytes, counted and searched by words of eight bytes.
 
-ghost use Rattle.std.specs.Prelude.{◌≡◌, ◌-◌, ◌*◌, ◌<◌, ◌≤◌, length, find};
+ghost use Rattle.std.specs.Prelude.{◌≡◌, ◌-◌, ◌*◌, ◌<◌, ◌≤◌, length, drop, find};
+ghost use Rattle.std.specs.Int.{w64, from_le_bytes};
 ghost use Rattle.std.specs.List.{slice_get, range_with_len};
 ghost use Rattle.view.specs.Bits.{bit_set, ones_of, ones_from, one_at};
 
@@ -26,7 +27,9 @@ pub(super) fn count_ones(row: &[u8]) -> usize
     ensures { result ≡ length (ones_from 0 row.now) }
 {
     // a cast, as Rust has no `From<u32>` for `usize`
-    row.iter().map(|byte| byte.count_ones() as usize).sum()
+    (0..row.len().div_ceil(8))
+        .map(|index| word_at(row, index).count_ones() as usize)
+        .sum()
 }
 
 /// Which bit of a row is set when so many lower ones are.
@@ -46,6 +49,21 @@ pub(super) fn nth_one(row: &[u8], place: usize) -> Option<usize>
     None
 }
 
+/// A word of a row: eight bytes, the lowest first. Behind the end of the row they are 0.
+fn word_at(row: &[u8], index: usize) -> u64
+    requires { 8 * index ≤ length row.now }
+    ensures { result ≡ from_le_bytes w64 (drop (8 * index) row.now) }
+{
+    let rest = &row[8 * index..];
+    match rest.first_chunk() {
+        Some(bytes) => u64::from_le_bytes(*bytes),
+        None => rest
+            .iter()
+            .rev()
+            .fold(0, |word, byte| word << 8 | u64::from(*byte)),
+    }
+}
+
 /// The first bit of a row that is set, from a bit on.
 pub(super) fn find_one(row: &[u8], from: usize) -> Option<usize>
     requires { length row.now ≤ 64 }
@@ -53,12 +71,12 @@ pub(super) fn find_one(row: &[u8], from: usize) -> Option<usize>
 {
     let mut bit = from;
     while bit < 8 * row.len() {
-        let rest = row[bit / 8] >> (bit % 8);
+        let rest = word_at(row, bit / 64) >> (bit % 64);
         if rest != 0 {
             // a cast, as Rust has no `From<u32>` for `usize`
             return Some(bit + rest.trailing_zeros() as usize);
         }
-        bit = 8 * (bit / 8 + 1);
+        bit = 64 * (bit / 64 + 1);
     }
     None
 }

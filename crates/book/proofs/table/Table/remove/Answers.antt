@@ -3,7 +3,7 @@ use Rattle.book.proofs.Tables.{one_row, same_numbers}
 use Rattle.book.proofs.table.Table.remove.Goals as goal
 
 pub returns-clause-links : goal.returns-clause-links
-returns-clause-links c = one_row c.args.self.now.count c.args.s c.args.self.now.stations _ (cut c.args.t) c.remove.ensures.row
+returns-clause-links c = one_row c.args.self.now.count c.args.s c.args.self.now.stations _ c.args.self.now.order (cut c.args.t) c.remove.ensures.row
 
 pub returns-clause-numbers : goal.returns-clause-numbers
-returns-clause-numbers c = same_numbers c.args.self.now.count c.args.s c.args.self.now.stations _ c.remove.ensures.number
+returns-clause-numbers c = same_numbers c.args.self.now.count c.args.s c.args.self.now.stations _ c.args.self.now.order c.remove.ensures.number

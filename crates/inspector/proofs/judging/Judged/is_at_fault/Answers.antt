@@ -1,5 +1,4 @@
 use Rattle.std.proofs.Common.{◌≡◌, ℕ, ◌<◌, ◌≤◌, ◌||◌, ltb, leb, get_or, rules, tests, ap, ◌∙◌, arith}
-use Rattle.view.specs.Neighbours.{left}
 use Rattle.cores.specs.Numbers.{Group}
 use Rattle.cores.specs.Orders.{at_fault, after, falls}
 use Rattle.inspector.proofs.Places.{fault_by_counts}
@@ -14,7 +13,7 @@ loop-t-init g c =
     let site = g.V.View.site judged.view.now in
     let row = g.V.View.row judged.view.now in
     let law = g.met.V.View.faithful judged.view.now in
-    let coming = ap (left g.V.View.row) c.into_iter-t-iterator.ensures.into_iter_gives ∙ c.neighbours-t-items.ensures in
+    let coming = c.into_iter-t-iterator.ensures.into_iter_gives ∙ c.neighbours-t-items.ensures in
     rw coming (
       row_on_site site row law c.args.s,
       counted_none site row law c.args.s (λ t. leb (get_or judged.numbers.now c.args.s 0) (get_or judged.numbers.now t 0)),
@@ -38,7 +37,7 @@ pub offset_bounds-self-t-in-loop-t : goal.offset_bounds-self-t-in-loop-t
 offset_bounds-self-t-in-loop-t g c = let on = on_site g (goal.at.offset_bounds-self-t-in-loop-t g c).In-Some in let few = c.args.self.now.fit.few in search rules
 
 -- what was met, and one more at most, is no more than there are stations
-room : (g : Over) (c : In-Some g) (X : Group) (met : ℕ) → Counted (g.V.View.site c.args.self.now.view.now) X c.args.s (left g.V.View.row c.loop-t.t-iterator) met → met ≤ 512
+room : (g : Over) (c : In-Some g) (X : Group) (met : ℕ) → Counted (g.V.View.site c.args.self.now.view.now) X c.args.s c.loop-t.t-iterator met → met ≤ 512
 room g c X met counted = omega (arith, counted, hears_few (g.V.View.site c.args.self.now.view.now) X c.args.s, c.args.self.now.fit.few)
 
 pub overflow_add-supporting : goal.overflow_add-supporting

@@ -1,14 +1,16 @@
-use Rattle.std.proofs.Common.{sym, ◌∙◌, rules, tests, arith}
-use Rattle.std.proofs.lemmas.Iterator.{YieldsList-from_range}
-use Rattle.std.proofs.lemmas.Iterator.Adapters.{option_map_id}
-use Rattle.std.proofs.lemmas.Iterator.Search.{find_from_yields_List}
+use Rattle.std.proofs.Common.{sym, ◌∙◌, arith}
+use Rattle.cores.proofs.Searches.{lowest_none, lowest_more, lowest_found}
 use Rattle.view.specs.Listing.{lists, stations, bad_row}
-use Rattle.cores.proofs.Searches.{lowest_listed}
 use Rattle.view.proofs.listed.Listing.find_bad_row.Goals as goal
 
-pub returns : goal.returns
-returns c =
-    let n = stations (lists c.args.self.now) in
-    rw lowest_listed
-    (sym (option_map_id c.find.result)
-    ∙ find_from_yields_List (bad_row (lists c.args.self.now)) _ _ c.find.result c.find.ensures.ran (YieldsList-from_range 0 n n (cc) (omega arith)) (λ x b q k. search (rules, tests)))
+pub loop-s-init : goal.loop-s-init
+loop-s-init c = lowest_none (bad_row (lists c.args.self.now))
+
+pub loop-s-preserved : goal.loop-s-preserved
+loop-s-preserved c =
+    lowest_more c.loop-s.s (bad_row (lists c.args.self.now)) c.loop-s.invariant (sym c.row_is_bad.ensures ∙ c.if-row_is_bad.false)
+
+pub returns-then-row_is_bad : goal.returns-then-row_is_bad
+returns-then-row_is_bad c =
+    let ls = lists c.args.self.now in
+    sym (lowest_found (stations ls) (bad_row ls) c.loop-s.s (omega arith) c.loop-s.invariant (sym c.row_is_bad.ensures ∙ c.if-row_is_bad.true))

@@ -1,4 +1,5 @@
 use Rattle.std.proofs.Common.{◌≡◌, slice_index, arith}
+use Rattle.view.proofs.Joining.{still_components}
 use Rattle.view.proofs.Levels.{no_links_yet, links_of_one_more, links_of_no_more, level_joined}
 use Rattle.view.proofs.forest.numbered.Numbered.join_level.Goals as goal
 use Rattle.view.proofs.forest.numbered.Numbered.join_level.Goals.{then-self-s, else-self-s}
@@ -19,4 +20,5 @@ pub returns : goal.returns
 returns g c =
     let view = c.args.self.now.view.now in
     let all : c.loop-s.s ≡ (g.V.View.site view).size = omega (arith, c.args.self.now.right) in
-    level_joined (g.V.View.site view) (slice_index c.args.self.now.numbers.now) (g.met.V.View.faithful view).lawful c.args.level c.loop-s.components.labels (rw all at c.loop-s.invariant)
+    let joined = level_joined (g.V.View.site view) (slice_index c.args.self.now.numbers.now) (g.met.V.View.faithful view).lawful c.args.level c.loop-s.components.labels (rw all at c.loop-s.invariant) in
+    record { joined = still_components _ _ _ _ c.settle.ensures.shortened joined; settled = rw c.args.self.now.right at c.settle.ensures.settled }

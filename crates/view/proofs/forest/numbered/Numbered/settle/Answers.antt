@@ -14,7 +14,7 @@ loop-level-init g c =
     let right = c.args.self.now.right in
     let above = c.top-level.result + 1 in
     let filled : c.fill.new.self ≡ replicate (length numbers) 65535 = search rules in (
-      rw (no_links_above site (slice_index numbers) (g.met.V.View.faithful view).lawful above (λ s h. omega (arith, c.top-level.ensures.greatest s (omega arith)))) c.apart-components.ensures,
+      rw (no_links_above site (slice_index numbers) (g.met.V.View.faithful view).lawful above (λ s h. omega (arith, c.top-level.ensures.greatest s (omega arith)))) (c.apart-components.ensures site.size (omega (arith, c.args.self.now.few))),
       no_homes_yet site numbers (λ s h. omega arith) c.args.homes.now (omega arith) above (λ s h. omega (arith, c.top-level.ensures.greatest s h)),
       rw (filled, right) (no_ups_yet site numbers (λ s h. omega arith) c.args.ups.now (omega arith) above (λ s h. omega (arith, c.top-level.ensures.greatest s h))),
     )

@@ -8,6 +8,6 @@ abbrev pub invariant-loop-level : goal.invariant-loop-level
 invariant-loop-level g l =
     let site = g.V.View.site l.self.view.now in
     let numbers = l.self.numbers.now in
-    AreComponents (links_at site (slice_index numbers) (l.level + 1)) l.components.labels
+    AreComponents site.size (links_at site (slice_index numbers) (l.level + 1)) l.components.labels
     × (l.homes ≡ rewritten site.size (homes_from site (slice_index numbers) (l.level + 1)) l.fn.homes)
     × (l.ups ≡ rewritten site.size (ups_from site (slice_index numbers) (l.level + 1)) l.fn.ups)

@@ -17,7 +17,7 @@ loop-s-preserved g c =
     let few = c.args.self.now.few in
     elim c.if-self-s.branch [
       | then-self-s w ↦ rw w.homes-is
-          (home_set (g.V.View.site view) (g.met.V.View.faithful view).lawful numbers right c.args.level c.args.components.now.labels (omega arith) c.requires.joined
+          (home_set (g.V.View.site view) (g.met.V.View.faithful view).lawful numbers right c.args.level c.args.components.now.labels c.requires.settled c.requires.joined
           c.loop-s.s (omega arith) c.args.homes.now c.loop-s.homes w.unwrap_or-home.result (omega arith) c.loop-s.invariant w.if-self-s.true
           (w.unwrap_or-home.ensures ∙ ap (λ o. unwrap_or o c.loop-s.s) w.lowest.ensures.lowest))
       | else-self-s w ↦ rw w.homes-is

@@ -17,7 +17,7 @@ loop-s-preserved g c =
     let few = c.args.self.now.few in
     elim c.if-waits.branch [
       | then-waits w ↦ rw w.ups-is
-          (up_set (g.V.View.site view) (g.met.V.View.faithful view).lawful numbers right c.args.level c.args.components.now.labels (omega arith) c.requires.joined
+          (up_set (g.V.View.site view) (g.met.V.View.faithful view).lawful numbers right c.args.level c.args.components.now.labels c.requires.settled c.requires.joined
           c.loop-s.s (omega arith) c.args.homes.now c.args.ups.now c.loop-s.ups w.map_or.result (omega arith) c.loop-s.invariant
           (sym c.waits.ensures ∙ w.if-waits.true)
           (let told : w.map_or.result ≡ up_in_table w.lowest-up.result = search rules in told ∙ ap up_in_table w.lowest-up.ensures.lowest))

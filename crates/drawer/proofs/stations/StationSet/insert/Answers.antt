@@ -1,0 +1,9 @@
+use Rattle.std.proofs.Common.{arith, rules, length, ◌≡◌}
+use Rattle.drawer.proofs.Sets.{put_in}
+use Rattle.drawer.proofs.stations.StationSet.insert.Goals as goal
+
+pub returns : goal.returns
+returns c =
+    let words = c.args.self.now.words in
+    let long : length words ≡ 8 = search rules in
+    put_in words c.args.s (omega (arith, long, c.requires))
