@@ -1,20 +1,18 @@
 -- What the two lists say of shape and of rows, as the code asks them.
-use Rattle.std.proofs.Common.{◌≡◌, ℕ, ◌+◌, ◌-◌, ◌<◌, min, not, ◌||◌, eqb, ltb, refl, Bool, true, false, List, [], length, take, drop, None, Some, Option, Bor, inl, inr, sym, ap, ◌∙◌, arith, length-drop, nat_cmp}
+use Rattle.std.proofs.Common.{◌≡◌, ℕ, ◌+◌, ◌-◌, ◌<◌, min, not, ◌&&◌, ◌||◌, ◌==◌, nat_le, nat_lt, slice_index, slice_index_or, eqb, refl, Bool, true, false, List, [], length, take, drop, None, Some, Option, Bor, inl, inr, sym, ap, ◌∙◌, arith, length-drop, nat_cmp}
 use Rattle.std.specs.List.{between, slice_get, IsAllAdjacentAnswer, list_any}
-use Rattle.std.specs.Fn.{Called, ComputesOnPairs, Mut}
 use Rattle.std.specs.Option.{UnwrapsOrElse, option_eq}
 use Rattle.std.specs.Ordering.{is_le, is_some_and}
 use Rattle.std.specs.Slice.{IsGetRangeResult}
-use Rattle.std.proofs.lemmas.Fn.{always_returns_same}
 use Rattle.std.proofs.lemmas.List.{take_min, get_or_default}
 use Rattle.std.proofs.lemmas.List.Sorted.{non_decreasing_from_is_sorted}
 use Rattle.std.proofs.lemmas.Bool.{le-leb, lt-leb, eqb-true, false≢true}
 use Rattle.std.proofs.lemmas.Option.{slice_get_within, get_or_from_slice_get}
 use Rattle.std.proofs.lemmas.List.Folds.{Any-from_list_any, list_any_at}
 use Rattle.cores.specs.Counting.{some, holds}
-use Rattle.cores.proofs.Searches.{same_test, all_from, all_fails, some_one, some_found}
+use Rattle.cores.proofs.Searches.{same_test, all_from, all_fails, some_at, some_one, some_found}
 use Rattle.cores.proofs.Entries.{held_where_it_stands}
-use Rattle.view.specs.Listing.{Lists, stations, never_falls, row, no_neighbour, bad_entry, bad_row}
+use Rattle.view.specs.Listing.{Lists, stations, never_falls, row, bad_entry, bad_row}
 
 -- a part that would pass the end stops there
 cut : (xs : List ℕ) (i j : ℕ) → between i (min (length xs) j) xs ≡ between i j xs
@@ -48,27 +46,48 @@ never_falls_sorted ls false h =
     let (k, l, falls) = non_decreasing_from_is_sorted ls.starts false h in
     sym (all_fails (stations ls) _ k (omega arith) (lt-leb _ _ (falls 0)))
 
--- a row is bad unless it rises, as each call of a closure tests, and each entry can be a neighbour
-pub row_judged : (ls : Lists) (s : ℕ) {F : Type 0} {g : Mut F (Bor ℕ × (Bor ℕ × Unit {0})) Bool} {f : F} (ys : List ℕ) (r : Bool) → ys ≡ row ls s
-    → ((e : ℕ → ℕ → Bool) → ComputesOnPairs g e f → IsAllAdjacentAnswer (λ x y b. b ≡ e x y) ys r)
-    → ((a : Bor ℕ × (Bor ℕ × Unit {0})) (b : Bool) (f' : F) → Called g f a b f' → (b ≡ ltb a.0.now a.1.0.now) × (f' ≡ f))
-    → (not r || list_any (no_neighbour ls s) (row ls s)) ≡ bad_row ls s
+-- the two ways in which an entry is bad: by itself, or as the other row does not list the station in return
+abbrev pub misplaced_in : Lists → List ℕ → ℕ → ℕ → Bool
+misplaced_in ls xs s place =
+    let t = slice_index_or xs place 0 in
+    (t == s) || nat_le (stations ls) t || (nat_lt 0 place && nat_le t (slice_index xs (place - 1)))
+
+abbrev pub misplaced : Lists → ℕ → ℕ → Bool
+misplaced ls s = misplaced_in ls (row ls s) s
+
+abbrev pub unreturned : Lists → ℕ → ℕ → Bool
+unreturned ls s place = not (holds (row ls (slice_index_or (row ls s) place 0)) s)
+
+-- a misplaced entry makes a row bad
+pub misplaced_is_bad : (ls : Lists) (s place : ℕ) → place < length (row ls s) → misplaced ls s place ≡ true → bad_row ls s ≡ true
 unfolding bad_row
-row_judged ls s ys r same cases calls =
-    let h : IsAllAdjacentAnswer (λ x y b. b ≡ ltb x y) (row ls s) r = rw (← same) (cases ltb (always_returns_same _ _ _ calls)) in
-    same_test _ _ (found r h) (λ bad. let (place, l, e) = some_one _ (bad_entry ls s) bad in judged r h place l e)
+misplaced_is_bad ls s place l e = some_found (length (row ls s)) (bad_entry ls s) place l (grind arith)
+
+-- with none, a row is bad if some entry is not returned, which is to be searched for unless all were found to be
+pub row_judged : (ls : Lists) (s : ℕ) (r : Bool) → some (length (row ls s)) (misplaced ls s) ≡ false
+    → (r ≡ true → some (length (row ls s)) (unreturned ls s) ≡ false)
+    → (not r && list_any (λ t. not (holds (row ls t) s)) (row ls s)) ≡ bad_row ls s
+unfolding bad_row
+row_judged ls s r placed found = same_test _ _ (bad r) (judged r found)
   where
     xs : List ℕ
     xs = row ls s
 
-    found : (r : Bool) → IsAllAdjacentAnswer (λ x y b. b ≡ ltb x y) xs r → (not r || list_any (no_neighbour ls s) xs) ≡ true
-        → some (length xs) (bad_entry ls s) ≡ true
-    found false (k, l, falls) e = let fall = falls 0 in some_found (length xs) (bad_entry ls s) (k + 1) l (grind arith)
-    found true rises e = let (k, t, l, at, bad) = Any-from_list_any (no_neighbour ls s) xs e in let same = get_or_default xs k t 0 l in some_found (length xs) (bad_entry ls s) k l (grind arith)
+    bad : (r : Bool) → (not r && list_any (λ t. not (holds (row ls t) s)) xs) ≡ true → some (length xs) (bad_entry ls s) ≡ true
+    bad true e = absurd (false≢true e)
+    bad false e =
+        let (k, t, l, at, not_there) = Any-from_list_any (λ t. not (holds (row ls t) s)) xs e in
+        let same = get_or_default xs k t 0 l in
+        some_found (length xs) (bad_entry ls s) k l (grind arith)
 
-    judged : (r : Bool) → IsAllAdjacentAnswer (λ x y b. b ≡ ltb x y) xs r → (place : ℕ) → place < length xs → bad_entry ls s place ≡ true
-        → (not r || list_any (no_neighbour ls s) xs) ≡ true
-    judged false h place l e = refl
-    judged true rises place l e =
-        let rise = rises (place - 1) 0 in
-        list_any_at (no_neighbour ls s) xs place 0 l (grind arith)
+    judged : (r : Bool) → (r ≡ true → some (length xs) (unreturned ls s) ≡ false) → some (length xs) (bad_entry ls s) ≡ true
+        → (not r && list_any (λ t. not (holds (row ls t) s)) xs) ≡ true
+    judged true found e =
+        let (place, l, is) = some_one _ (bad_entry ls s) e in
+        let by_itself = some_at (length xs) (misplaced ls s) place placed l in
+        let by_return = some_at (length xs) (unreturned ls s) place (found refl) l in
+        grind arith
+    judged false found e =
+        let (place, l, is) = some_one _ (bad_entry ls s) e in
+        let by_itself = some_at (length xs) (misplaced ls s) place placed l in
+        list_any_at (λ t. not (holds (row ls t) s)) xs place 0 l (grind arith)

@@ -1,9 +1,9 @@
 //! The rows that a listing is cut into, and which rows are bad.
 
-ghost use Rattle.std.specs.Prelude.{◌≡◌, ◌≤◌};
+ghost use Rattle.std.specs.Prelude.{◌≡◌, ◌<◌, ◌≤◌, ◌-◌, ◌==◌, ◌&&◌, ◌||◌, true, length, nat_le, nat_lt, slice_index, slice_index_or};
 ghost use Rattle.std.specs.List.{slice_get};
 ghost use Rattle.cores.specs.Counting.{holds};
-ghost use Rattle.view.specs.Listing.{lists, stations as station_count, shaped, row as row_of, no_neighbour, bad_row, lowest_bad_row};
+ghost use Rattle.view.specs.Listing.{lists, stations as station_count, shaped, row as row_of, bad_row, lowest_bad_row};
 
 use super::Listing;
 
@@ -48,43 +48,51 @@ impl<'e> Listing<'_, 'e> {
                 .is_some_and(|last| *last as usize == ends.len())
     }
 
-    /// Whether the row of a station lists another, for which one place is looked at first.
-    fn row_lists(&self, s: usize, t: usize, place: usize) -> bool
+    /// Whether the row of a station lists another.
+    fn row_lists(&self, s: usize, t: usize) -> bool
         ensures { result ≡ holds (row_of (lists self.now) s) t }
     {
-        self.entry(s, place) == Some(t) || self.row(s).iter().any(|end| usize::from(*end) == t)
+        self.row(s).iter().any(|end| usize::from(*end) == t)
     }
 
-    /// Whether t cannot be a neighbour of s: it is s itself, is off the site, or does not list s in return. In a listing in
-    /// order the stations that list t stand in its row as they come, so the next place of the row is looked at first.
-    fn is_no_neighbour(&self, s: usize, t: usize, next: &mut [u16; 512]) -> bool
-        requires { station_count (lists self.now) ≤ 512 }
-        ensures { result ≡ no_neighbour (lists self.now) s t }
+    /// Whether an entry of the row of s cannot stand there, whatever other rows list: it is s itself, is off the site, or is not
+    /// above the one before.
+    fn is_misplaced(&self, s: usize, row: &[u16], place: usize) -> bool
+        requires { place < length row.now }
+        ensures { let t = slice_index_or row.now place 0 in
+            result ≡ ((t == s) || nat_le (station_count (lists self.now)) t || (nat_lt 0 place && nat_le t (slice_index row.now (place - 1)))) }
     {
-        if t == s || self.stations() <= t {
-            return true;
-        }
+        let t = usize::from(row[place]);
+        t == s || self.stations() <= t || (place > 0 && row[place] <= row[place - 1])
+    }
+
+    /// Whether all entries so far were found to be returned, and t lists s at the place of its row that is looked at next too. In a
+    /// listing in order it does, as the stations that list t come as they stand in its row.
+    fn returned_next(&self, s: usize, t: usize, next: &mut [u16; 512], so_far: bool) -> bool
+        requires { t < 512 }
+        ensures so_far { result ≡ true → so_far ≡ true }
+        ensures listed { result ≡ true → holds (row_of (lists self.now) t) s ≡ true }
+    {
         let place = next[t];
         // may wrap, as any place will do
         next[t] = place.wrapping_add(1);
-        !self.row_lists(t, s, usize::from(place))
+        so_far && self.entry(t, usize::from(place)) == Some(s)
     }
 
-    /// Whether some entry of a row is bad.
+    /// Whether some entry of a row is bad. The rows of its entries are searched only once it is known to rise on the site.
     fn row_is_bad(&self, s: usize, next: &mut [u16; 512]) -> bool
         requires { station_count (lists self.now) ≤ 512 }
         ensures { result ≡ bad_row (lists self.now) s }
     {
         let row = self.row(s);
-        if !row.is_sorted_by(|a, b| a < b) {
-            return true;
-        }
-        for t in row {
-            if self.is_no_neighbour(s, usize::from(*t), next) {
+        let mut returned = true;
+        for place in 0..row.len() {
+            if self.is_misplaced(s, row, place) {
                 return true;
             }
+            returned = self.returned_next(s, usize::from(row[place]), next, returned);
         }
-        false
+        !returned && row.iter().any(|t| !self.row_lists(usize::from(*t), s))
     }
 
     /// The lowest bad row, if there is one.

@@ -1,8 +1,10 @@
-use Rattle.std.proofs.Common.{◌≡◌, drop}
-use Rattle.std.specs.List.{list_any}
-use Rattle.view.specs.Listing.{lists, no_neighbour}
+use Rattle.std.proofs.Common.{◌≡◌, true, false}
+use Rattle.cores.specs.Counting.{some}
+use Rattle.view.specs.Listing.{lists}
+use Rattle.view.proofs.Rows.{misplaced, unreturned}
 use Rattle.view.proofs.listed.Listing.row_is_bad.Given as goal
 
--- what is left of the row decides
-abbrev pub invariant-loop-t : goal.invariant-loop-t
-invariant-loop-t l = list_any (no_neighbour (lists l.self) l.s) (drop l.t-index l.row) ≡ list_any (no_neighbour (lists l.self) l.s) l.row
+-- no entry so far is misplaced, and each is returned if it was found to be
+abbrev pub invariant-loop-place : goal.invariant-loop-place
+invariant-loop-place l =
+    (some l.place (misplaced (lists l.self) l.s) ≡ false) × (l.returned ≡ true → some l.place (unreturned (lists l.self) l.s) ≡ false)
