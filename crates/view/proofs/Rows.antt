@@ -1,5 +1,5 @@
 -- What the two lists say of shape and of rows, as the code asks them.
-use Rattle.std.proofs.Common.{◌≡◌, ℕ, ◌+◌, ◌-◌, ◌<◌, min, not, ◌&&◌, ◌||◌, ◌==◌, nat_le, nat_lt, slice_index, slice_index_or, eqb, refl, Bool, true, false, List, [], length, take, drop, None, Some, Option, Bor, inl, inr, sym, ap, ◌∙◌, arith, length-drop, nat_cmp}
+use Rattle.std.proofs.Common.{◌≡◌, ℕ, ◌+◌, ◌-◌, ◌<◌, ◌≤◌, min, not, ◌&&◌, ◌||◌, ◌==◌, nat_le, nat_lt, slice_index, slice_index_or, eqb, refl, Bool, true, false, List, [], length, take, drop, None, Some, Option, Bor, inl, inr, sym, ap, ◌∙◌, arith, length-drop, nat_cmp}
 use Rattle.std.specs.List.{between, slice_get, IsAllAdjacentAnswer, list_any}
 use Rattle.std.specs.Option.{UnwrapsOrElse, option_eq}
 use Rattle.std.specs.Ordering.{is_le, is_some_and}
@@ -10,7 +10,7 @@ use Rattle.std.proofs.lemmas.Bool.{le-leb, lt-leb, eqb-true, false≢true}
 use Rattle.std.proofs.lemmas.Option.{slice_get_within, get_or_from_slice_get}
 use Rattle.std.proofs.lemmas.List.Folds.{Any-from_list_any, list_any_at}
 use Rattle.cores.specs.Counting.{some, holds}
-use Rattle.cores.proofs.Searches.{same_test, all_from, all_fails, some_at, some_one, some_found}
+use Rattle.cores.proofs.Searches.{same_test, by_cases, all_from, all_fails, some_at, some_one, some_found}
 use Rattle.cores.proofs.Entries.{held_where_it_stands}
 use Rattle.view.specs.Listing.{Lists, stations, never_falls, row, bad_entry, bad_row}
 
@@ -46,7 +46,7 @@ never_falls_sorted ls false h =
     let (k, l, falls) = non_decreasing_from_is_sorted ls.starts false h in
     sym (all_fails (stations ls) _ k (omega arith) (lt-leb _ _ (falls 0)))
 
--- the two ways in which an entry is bad: by itself, or as the other row does not list the station in return
+-- how an entry of a row is bad by itself, whatever other rows list
 abbrev pub misplaced_in : Lists → List ℕ → ℕ → ℕ → Bool
 misplaced_in ls xs s place =
     let t = slice_index_or xs place 0 in
@@ -55,39 +55,45 @@ misplaced_in ls xs s place =
 abbrev pub misplaced : Lists → ℕ → ℕ → Bool
 misplaced ls s = misplaced_in ls (row ls s) s
 
-abbrev pub unreturned : Lists → ℕ → ℕ → Bool
-unreturned ls s place = not (holds (row ls (slice_index_or (row ls s) place 0)) s)
-
 -- a misplaced entry makes a row bad
-pub misplaced_is_bad : (ls : Lists) (s place : ℕ) → place < length (row ls s) → misplaced ls s place ≡ true → bad_row ls s ≡ true
+pub misplaced_is_bad : (ls : Lists) (s place : ℕ) (xs : List ℕ) → xs ≡ row ls s → place < length xs → misplaced_in ls xs s place ≡ true → bad_row ls s ≡ true
 unfolding bad_row
-misplaced_is_bad ls s place l e = some_found (length (row ls s)) (bad_entry ls s) place l (grind arith)
+misplaced_is_bad ls s place xs is l e = let same = ap length is in some_found (length (row ls s)) (bad_entry ls s) place (omega arith) (grind arith)
 
--- with none, a row is bad if some entry is not returned, which is to be searched for unless all were found to be
-pub row_judged : (ls : Lists) (s : ℕ) (r : Bool) → some (length (row ls s)) (misplaced ls s) ≡ false
-    → (r ≡ true → some (length (row ls s)) (unreturned ls s) ≡ false)
-    → (not r && list_any (λ t. not (holds (row ls t) s)) (row ls s)) ≡ bad_row ls s
+-- and so does one that is not returned
+pub unreturned_is_bad : (ls : Lists) (s place : ℕ) (xs : List ℕ) → xs ≡ row ls s → place < length xs → holds (row ls (slice_index_or xs place 0)) s ≡ false
+    → bad_row ls s ≡ true
 unfolding bad_row
-row_judged ls s r placed found = same_test _ _ (bad r) (judged r found)
+unreturned_is_bad ls s place xs is l e = let same = ap length is in some_found (length (row ls s)) (bad_entry ls s) place (omega arith) (grind arith)
+
+-- an entry that is neither is not bad
+pub good_entry : (ls : Lists) (s place : ℕ) (xs : List ℕ) → xs ≡ row ls s → misplaced_in ls xs s place ≡ false → holds (row ls (slice_index_or xs place 0)) s ≡ true
+    → bad_entry ls s place ≡ false
+good_entry ls s place xs is placed returned = grind arith
+
+-- entries that are not bad are not misplaced
+pub none_misplaced : (ls : Lists) (s n : ℕ) → some n (bad_entry ls s) ≡ false → some n (misplaced ls s) ≡ false
+none_misplaced ls s n none = by_cases (some n (misplaced ls s))
+    (λ e. let (place, l, is) = some_one n (misplaced ls s) e in let good = some_at n (bad_entry ls s) place none l in absurd (false≢true (grind arith)))
+    (λ e. e)
+
+-- with none misplaced, a row is bad if some entry is not returned
+pub row_judged : (ls : Lists) (s n : ℕ) → length (row ls s) ≤ n → some n (misplaced ls s) ≡ false
+    → list_any (λ t. not (holds (row ls t) s)) (row ls s) ≡ bad_row ls s
+unfolding bad_row
+row_judged ls s n whole placed = same_test _ _ bad judged
   where
     xs : List ℕ
     xs = row ls s
 
-    bad : (r : Bool) → (not r && list_any (λ t. not (holds (row ls t) s)) xs) ≡ true → some (length xs) (bad_entry ls s) ≡ true
-    bad true e = absurd (false≢true e)
-    bad false e =
+    bad : list_any (λ t. not (holds (row ls t) s)) xs ≡ true → some (length xs) (bad_entry ls s) ≡ true
+    bad e =
         let (k, t, l, at, not_there) = Any-from_list_any (λ t. not (holds (row ls t) s)) xs e in
         let same = get_or_default xs k t 0 l in
         some_found (length xs) (bad_entry ls s) k l (grind arith)
 
-    judged : (r : Bool) → (r ≡ true → some (length xs) (unreturned ls s) ≡ false) → some (length xs) (bad_entry ls s) ≡ true
-        → (not r && list_any (λ t. not (holds (row ls t) s)) xs) ≡ true
-    judged true found e =
+    judged : some (length xs) (bad_entry ls s) ≡ true → list_any (λ t. not (holds (row ls t) s)) xs ≡ true
+    judged e =
         let (place, l, is) = some_one _ (bad_entry ls s) e in
-        let by_itself = some_at (length xs) (misplaced ls s) place placed l in
-        let by_return = some_at (length xs) (unreturned ls s) place (found refl) l in
-        grind arith
-    judged false found e =
-        let (place, l, is) = some_one _ (bad_entry ls s) e in
-        let by_itself = some_at (length xs) (misplaced ls s) place placed l in
+        let by_itself = some_at n (misplaced ls s) place placed (omega arith) in
         list_any_at (λ t. not (holds (row ls t) s)) xs place 0 l (grind arith)

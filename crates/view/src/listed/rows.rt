@@ -1,9 +1,9 @@
 //! The rows that a listing is cut into, and which rows are bad.
 
-ghost use Rattle.std.specs.Prelude.{◌≡◌, ◌<◌, ◌≤◌, ◌-◌, ◌==◌, ◌&&◌, ◌||◌, true, length, nat_le, nat_lt, slice_index, slice_index_or};
+ghost use Rattle.std.specs.Prelude.{◌≡◌, ◌<◌, ◌≤◌, ◌-◌, ◌==◌, ◌&&◌, ◌||◌, true, false, length, nat_le, nat_lt, slice_index, slice_index_or};
 ghost use Rattle.std.specs.List.{slice_get};
-ghost use Rattle.cores.specs.Counting.{holds};
-ghost use Rattle.view.specs.Listing.{lists, stations as station_count, shaped, row as row_of, bad_row, lowest_bad_row};
+ghost use Rattle.cores.specs.Counting.{some, holds};
+ghost use Rattle.view.specs.Listing.{lists, stations as station_count, shaped, row as row_of, bad_entry, bad_row, lowest_bad_row};
 
 use super::Listing;
 
@@ -66,33 +66,52 @@ impl<'e> Listing<'_, 'e> {
         t == s || self.stations() <= t || (place > 0 && row[place] <= row[place - 1])
     }
 
-    /// Whether all entries so far were found to be returned, and t lists s at the place of its row that is looked at next too. In a
-    /// listing in order it does, as the stations that list t come as they stand in its row.
-    fn returned_next(&self, s: usize, t: usize, next: &mut [u16; 512], so_far: bool) -> bool
+    /// Whether t lists s at the place of its row that is looked at next. In a listing in order it does, as the stations that list t
+    /// come as they stand in its row.
+    fn found_next(&self, s: usize, t: usize, next: &mut [u16; 512]) -> bool
         requires { t < 512 }
-        ensures so_far { result ≡ true → so_far ≡ true }
-        ensures listed { result ≡ true → holds (row_of (lists self.now) t) s ≡ true }
+        ensures { result ≡ true → holds (row_of (lists self.now) t) s ≡ true }
     {
         let place = next[t];
         // may wrap, as any place will do
         next[t] = place.wrapping_add(1);
-        so_far && self.entry(t, usize::from(place)) == Some(s)
+        self.entry(t, usize::from(place)) == Some(s)
     }
 
-    /// Whether some entry of a row is bad. The rows of its entries are searched only once it is known to rise on the site.
+    /// Whether some entry of a row is bad.
     fn row_is_bad(&self, s: usize, next: &mut [u16; 512]) -> bool
         requires { station_count (lists self.now) ≤ 512 }
         ensures { result ≡ bad_row (lists self.now) s }
     {
         let row = self.row(s);
-        let mut returned = true;
         for place in 0..row.len() {
             if self.is_misplaced(s, row, place) {
                 return true;
             }
-            returned = self.returned_next(s, usize::from(row[place]), next, returned);
+            let t = usize::from(row[place]);
+            if !self.found_next(s, t, next) {
+                return !self.row_lists(t, s) || self.rest_is_bad(s, place + 1, next);
+            }
         }
-        !returned && row.iter().any(|t| !self.row_lists(usize::from(*t), s))
+        false
+    }
+
+    /// Whether some entry of a row is bad, where none is in front of a place. The rows of its entries are searched only once it is
+    /// known to rise on the site.
+    fn rest_is_bad(&self, s: usize, from: usize, next: &mut [u16; 512]) -> bool
+        requires sized { station_count (lists self.now) ≤ 512 }
+        requires front { some from (bad_entry (lists self.now) s) ≡ false }
+        ensures { result ≡ bad_row (lists self.now) s }
+    {
+        let row = self.row(s);
+        for place in from..row.len() {
+            if self.is_misplaced(s, row, place) {
+                return true;
+            }
+            // looked at to keep the next places in step
+            self.found_next(s, usize::from(row[place]), next);
+        }
+        row.iter().any(|t| !self.row_lists(usize::from(*t), s))
     }
 
     /// The lowest bad row, if there is one.
